@@ -8,7 +8,7 @@ use Rattle.lpt_c_ground.specs.declared.grounds.Ground.{Ground}
 abbrev pub all_done : ℕ
 all_done = 0
 
--- no area, or one without octets or behind the last address
+-- no area, one without octets or behind the last address, or two that overlap
 abbrev pub bad_area : ℕ
 bad_area = of_memory.code_of memory_fault.BadArea
 

@@ -1,5 +1,5 @@
 -- The requests of a job, and why it has none.
-use Rattle.std.specs.Prelude.{◌≡◌, ◌≤◌, ℕ, ◌+◌, ◌-◌, ◌==◌, nat_le, nat_lt, Bool, ◌&&◌, if◌then◌else◌, List, [], ◌∷◌, length, map, take, drop, Option, Some, None}
+use Rattle.std.specs.Prelude.{◌≡◌, ◌≤◌, ℕ, ◌+◌, ◌-◌, ◌==◌, nat_le, nat_lt, Bool, false, ◌&&◌, ◌||◌, if◌then◌else◌, List, [], ◌∷◌, length, map, take, drop, Option, Some, None}
 use Rattle.std.specs.Int.{div_ceil}
 use Rattle.lpt_memory.specs.declared.request.Area.{Area}
 use Rattle.lpt_memory.specs.declared.request.AreaRange.{AreaRange}
@@ -9,6 +9,7 @@ use Rattle.lpt_requests.specs.declared.reading.Read.{Read}
 use Rattle.lpt_requests.specs.declared.reading.Read.TheVariants as reads
 use Rattle.lpt_requests.specs.declared.request.Request.{Request}
 use Rattle.lpt_requests.specs.Cuts.{AreasCut, ArePlacesCut, as_load, as_read, places_fault, view}
+use Rattle.lpt_ground.specs.Overlaps.{overlap}
 use Rattle.lpt_ground.specs.Passes.{pass_begun, state_of}
 use Rattle.lpt_ground.specs.Plans.{requests_planned}
 use Rattle.lpt_c_ground.specs.Codes.{bad_area, long_job, range}
@@ -37,6 +38,16 @@ abbrev pub have_together : List LptPlace → (len : ℕ) → Bool
 have_together [] len = len == 0
 have_together (p ∷ rest) len = nat_le p.len len && have_together rest (len - p.len)
 
+-- whether a place shares an address with one of these
+abbrev pub overlaps_one : LptPlace → List LptPlace → Bool
+overlaps_one p [] = false
+overlaps_one p (q ∷ rest) = overlap (place_of p) (place_of q) || overlaps_one p rest
+
+-- whether two of these places share one
+abbrev pub some_overlap : List LptPlace → Bool
+some_overlap [] = false
+some_overlap (p ∷ rest) = overlaps_one p rest || some_overlap rest
+
 -- how many requests of so many octets at most they take
 abbrev pub how_many : (each : ℕ) → List LptPlace → ℕ
 how_many each [] = 0
@@ -48,10 +59,14 @@ most = 16384
 
 -- ---- why there are none
 
+-- no two places of a load share an address
+abbrev pub apart_refusal : List LptPlace → Option ℕ
+apart_refusal places = if some_overlap places then Some bad_area else None
+
 -- a load has as many octets as its places
 abbrev pub content_refusal : JobKind → List LptPlace → (content : List ℕ) → Option ℕ
 content_refusal Load places content =
-    if have_together places (length content) then None else Some range
+    if have_together places (length content) then apart_refusal places else Some range
 content_refusal Dump places content = None
 content_refusal Check places content = None
 
@@ -67,7 +82,8 @@ fault_refusal (Some fault) refusal = Some bad_area
 fault_refusal None refusal = refusal
 
 -- why a job has no pass: a number out of its range, a place without octets or behind the last
--- address, too many requests, another content than the places have room for
+-- address, too many requests, another content than a load's places have room for, or two of these
+-- that share an address
 abbrev pub new_refusal : LptJob → List LptPlace → (content : List ℕ) → Option ℕ
 new_refusal j places content =
     if is_job j then

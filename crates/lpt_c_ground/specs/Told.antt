@@ -2,6 +2,8 @@
 use Rattle.std.specs.Prelude.{ℕ, ◌==◌, List, length, slice_get, Bool, if◌then◌else◌, Option, Some, None, Ok, Err}
 use Rattle.std.specs.List.{count_by}
 use Rattle.std.specs.Option.{option_map}
+use Rattle.lpt_failures.specs.declared.notice.FailureNotice.{FailureNotice}
+use Rattle.lpt_failures.specs.declared.notice.FailureNotice.TheVariants.{Code, Unread}
 use Rattle.lpt_ground.specs.declared.asked.Asked.{Asked}
 use Rattle.lpt_ground.specs.declared.asked.Fate.{Fate}
 use Rattle.lpt_ground.specs.declared.asked.Fate.TheVariants.{Waiting, Done, Failed}
@@ -12,11 +14,16 @@ use Rattle.lpt_c_ground.specs.declared.grounds.Ground.{Ground}
 use Rattle.lpt_c_ground.specs.declared.telling.LptFate.{LptFate}
 use Rattle.lpt_c_ground.specs.declared.telling.LptProgress.{LptProgress}
 
+-- why a request failed, as a number: its code, or 65536 where none is read
+abbrev pub notice_word : FailureNotice → ℕ
+notice_word (Code code) = code
+notice_word Unread = 65536
+
 -- a fate as C is told it
 abbrev pub fate_word : Fate → LptFate
 fate_word Waiting = record { state = 0; code = 0 }
 fate_word (Done o) = record { state = 1; code = 0 }
-fate_word (Failed code) = record { state = 2; code = code }
+fate_word (Failed notice) = record { state = 2; code = notice_word notice }
 
 -- ---- progress
 
@@ -69,7 +76,7 @@ abbrev pub report_by : Option Fate → Text
 report_by None = Err nothing
 report_by (Some Waiting) = Err nothing
 report_by (Some (Done o)) = Ok o
-report_by (Some (Failed code)) = Err nothing
+report_by (Some (Failed notice)) = Err nothing
 
 -- that of a number behind a handle
 abbrev pub report_told : (number : ℕ) → Option Ground → Text

@@ -3,7 +3,7 @@
 // Done.
 pub(crate) const DONE: u32 = 0;
 
-// No area, or one without octets or behind the last address.
+// No area, one without octets or behind the last address, or two that overlap.
 pub(crate) const BAD_AREA: u32 = 28;
 
 // Out of memory.

@@ -2,8 +2,10 @@
 
 ghost use Rattle.std.specs.Prelude.{◌≡◌, ◌≤◌, IsTrue};
 ghost use Rattle.lpt_c_ground.specs.Jobs.{each_of, flags_fit, is_job, kind_from, least_part, numbers_fit, starts_in, terms_of};
+ghost use Rattle.lpt_c_ground.specs.Plans.{place_of};
 
 use lpt_ground::Terms;
+use lpt_requests::AreaPlace;
 
 /// A job: what is asked of a memory, and in which packets.
 #[repr(C)]
@@ -154,6 +156,18 @@ impl LptJob {
             source: self.source,
             starts: starts_in(self.flags),
             tries: self.tries,
+        }
+    }
+}
+
+impl LptPlace {
+    // The place as requests have it.
+    pub(crate) fn area(&self) -> AreaPlace
+        ensures { result ≡ place_of self.now }
+    {
+        AreaPlace {
+            address: self.address,
+            len: self.len,
         }
     }
 }

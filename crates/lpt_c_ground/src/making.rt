@@ -13,7 +13,7 @@ use crate::codes::{BAD_AREA, DONE, LONG_JOB, MEMORY, RANGE};
 use crate::grounds::Ground;
 use crate::handle::take;
 use crate::jobs::{JobKind, LptJob, LptPlace};
-use crate::places::{are_too_many, have_together, places_fault};
+use crate::places::{are_too_many, have_together, places_fault, some_overlap};
 use crate::requests::requests_of;
 use lpt_ground::{Asked, Pass, plan_requests};
 use lpt_pus::AckFlags;
@@ -26,8 +26,8 @@ use std::alloc::Global;
 ///
 /// 0; 102 if a number of the job is out of its range; 28 if there is no place, or one has no octets
 /// or ends behind the last address; 121 if it takes more requests than a pass has, 16,384; 102 if
-/// the content of a load isn't as long as its places together; 58 when out of memory. The address
-/// is written only at 0.
+/// the content of a load isn't as long as its places together; 28 if two places of a load share an
+/// address; 58 when out of memory. The address is written only at 0.
 pub fn lpt_ground_new(
     alloc: Global,
     pass: &mut LptGroundAddress,
@@ -75,6 +75,7 @@ fn refusal(job: &LptJob, places: &[LptPlace], content: &[u8]) -> u32
     }
     match job.kind() {
         JobKind::Load if !have_together(places, content.len()) => RANGE,
+        JobKind::Load if some_overlap(places) => BAD_AREA,
         _ => DONE,
     }
 }

@@ -2,10 +2,10 @@
 
 ghost use Rattle.std.specs.Prelude.{◌≡◌, ◌<◌, nat_lt, map};
 ghost use Rattle.lpt_requests.specs.Cuts.{place_fault, places_fault};
-ghost use Rattle.lpt_c_ground.specs.Plans.{have_together, how_many, most, place_of};
+ghost use Rattle.lpt_c_ground.specs.Plans.{have_together, how_many, most, overlaps_one, place_of, some_overlap};
 
 use crate::jobs::LptPlace;
-use lpt_ground::MOST;
+use lpt_ground::{MOST, overlap};
 use lpt_requests::CutFault;
 
 /// How many addresses there are.
@@ -52,6 +52,34 @@ pub(crate) fn have_together(places: &[LptPlace], len: usize) -> bool
         rest -= place.len as usize;
     }
     rest == 0
+}
+
+// Whether two of these places share an address.
+pub(crate) fn some_overlap(places: &[LptPlace]) -> bool
+    ensures { result ≡ some_overlap places.now }
+{
+    let mut rest = places;
+    while let Some((place, behind)) = rest.split_first() {
+        if overlaps_one(place, behind) {
+            return true;
+        }
+        rest = behind;
+    }
+    false
+}
+
+// Whether a place shares an address with one of these.
+fn overlaps_one(place: &LptPlace, others: &[LptPlace]) -> bool
+    ensures { result ≡ overlaps_one place.now others.now }
+{
+    let mut rest = others;
+    while let Some((other, behind)) = rest.split_first() {
+        if overlap(place.area(), other.area()) {
+            return true;
+        }
+        rest = behind;
+    }
+    false
 }
 
 // Whether they take more requests of so many octets at most than a pass has.

@@ -104,10 +104,7 @@ fn places_of(alloc: Global, places: &[LptPlace]) -> Result<Vec<AreaPlace>, Alloc
 {
     let mut all = Vec::with_capacity(alloc, places.len())?;
     for place in places {
-        all.push(AreaPlace {
-            address: place.address,
-            len: place.len,
-        })?;
+        all.push(place.area())?;
     }
     Ok(all)
 }

@@ -5,13 +5,13 @@ ghost use Rattle.std.specs.List.{count_by};
 ghost use Rattle.lpt_ground.specs.Answers.{octets_in};
 ghost use Rattle.lpt_c_ground.specs.Codes.{answer, nothing, refusal_by};
 ghost use Rattle.lpt_c_ground.specs.Copies.{code_for, left_by, needed_by};
-ghost use Rattle.lpt_c_ground.specs.Told.{agrees_told, agrees_word, dump_in, fate_of, fate_refusal, fate_told, fate_word, has_state, progress_of, progress_told, report_by, report_told};
+ghost use Rattle.lpt_c_ground.specs.Told.{agrees_told, agrees_word, dump_in, fate_of, fate_refusal, fate_told, fate_word, has_state, notice_word, progress_of, progress_told, report_by, report_told};
 
 use crate::codes::{DONE, EMPTY, NOTHING};
 use crate::copying::copy_out;
 use crate::grounds::Ground;
 use crate::handle::{LptGround, put, take};
-use lpt_ground::{Asked, Fate, checks_agree};
+use lpt_ground::{Asked, FailureNotice, Fate, checks_agree};
 use std::alloc::Global;
 
 /// How many requests a pass has, and what became of them.
@@ -34,9 +34,12 @@ pub struct LptProgress {
 pub struct LptFate {
     /// 0 if nothing is known, 1 if it was carried out, 2 if it failed.
     pub state: u32,
-    /// The failure code; 0 if it didn't fail.
+    /// The failure code, or 65536 if its report has none of 16 bits; 0 if it didn't fail.
     pub code: u32,
 }
+
+/// What is told of a failure whose code isn't read.
+const UNREAD: u32 = 65_536;
 
 /// So many octets of a report's packet stand in front of a dump's octets, and behind them.
 const DUMP_FRONT: usize = 25;
@@ -210,9 +213,19 @@ fn fate_word_of(fate: &Fate) -> LptFate
     let (state, code) = match fate {
         Fate::Waiting => (0, 0),
         Fate::Done(_) => (1, 0),
-        Fate::Failed(code) => (2, u32::from(*code)),
+        Fate::Failed(notice) => (2, notice_word_of(*notice)),
     };
     LptFate { state, code }
+}
+
+// Why a request failed, as C is told it.
+fn notice_word_of(notice: FailureNotice) -> u32
+    ensures { result ≡ notice_word notice }
+{
+    match notice {
+        FailureNotice::Code(code) => u32::from(code),
+        FailureNotice::Unread => UNREAD,
+    }
 }
 
 // The octets of a dump in its report's packet.

@@ -1,4 +1,5 @@
 pub mod CarryLemmas
+mod OverlapLemmas
 pub mod PlaceLemmas
 mod ToldLemmas
 pub mod WaitingLemmas

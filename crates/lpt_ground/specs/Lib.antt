@@ -1,5 +1,6 @@
 pub mod Answers
 pub mod Carrying
+pub mod Overlaps
 pub mod Passes
 pub mod Plans
 pub mod Telling

@@ -53,7 +53,7 @@ pass_begun terms asked = record {
 abbrev pub has_come : Fate → Bool
 has_come Waiting = false
 has_come (Done o) = true
-has_come (Failed code) = false
+has_come (Failed notice) = false
 
 -- the same of a request
 abbrev pub is_done : Asked → Bool

@@ -4,8 +4,9 @@ use Rattle.lpt_packet.specs.Checksums.{checksum}
 use Rattle.lpt_packet.specs.Numbers.{word_at}
 use Rattle.lpt_pus.specs.Numbers.{long_at}
 use Rattle.lpt_pus.specs.Telemetry.{Telemetry, telemetry_in}
-use Rattle.lpt_verify.specs.declared.report.Report.{Report}
-use Rattle.lpt_verify.specs.Reading.{report_in}
+use Rattle.lpt_failures.specs.declared.notice.FailureNotice.{FailureNotice}
+use Rattle.lpt_failures.specs.declared.reading.RequestReport.{RequestReport}
+use Rattle.lpt_failures.specs.Failures.{any_report_in}
 use Rattle.lpt_ground.specs.declared.asked.Asked.{Asked}
 use Rattle.lpt_ground.specs.declared.asked.Awaits.{Awaits}
 use Rattle.lpt_ground.specs.declared.asked.Awaits.TheVariants.{Completion, Dumped, Checked}
@@ -44,23 +45,23 @@ is_success starts (Checked p) subtype = false
 
 -- ---- what is said of a request
 
--- a failure with this code, or else a success that is awaited or isn't
-abbrev pub said_with : Option ℕ → Bool → Option Said
-said_with (Some code) awaited = Some (said.Failed code)
+-- a failure with this notice, or else a success that is awaited or isn't
+abbrev pub said_with : Option FailureNotice → Bool → Option Said
+said_with (Some notice) awaited = Some (said.Failed notice)
 said_with None awaited = if awaited then Some said.Done else None
 
 -- a verification report says it of the request of its request ID
-abbrev pub said_by : (starts : Bool) → Asked → (subtype : ℕ) → Option Report → Option Said
+abbrev pub said_by : (starts : Bool) → Asked → (subtype : ℕ) → Option RequestReport → Option Said
 said_by starts a subtype (Some r) =
     if r.request.value == a.id then
-    said_with r.code (is_success starts a.awaits subtype)
+    said_with r.failure (is_success starts a.awaits subtype)
     else None
 said_by starts a subtype None = None
 
 -- telemetry says it
 unfoldable pub said_of : (starts : Bool) → Telemetry → Asked → Option Said
 said_of starts t a =
-    if t.service == 1 then said_by starts a t.subtype (report_in t.subtype t.body)
+    if t.service == 1 then said_by starts a t.subtype (any_report_in t.subtype t.body)
     else if t.service == 6 && is_answer a.awaits t.subtype t.body then Some said.Done
     else None
 
@@ -70,7 +71,7 @@ said_of starts t a =
 abbrev pub waits : Fate → Bool
 waits Waiting = true
 waits (Done o) = false
-waits (Failed code) = false
+waits (Failed notice) = false
 
 -- the same of a request
 abbrev pub is_waiting : Asked → Bool
@@ -79,7 +80,7 @@ is_waiting a = waits a.fate
 -- what was said is its fate, by these octets
 abbrev pub fate_by : Said → List ℕ → Fate
 fate_by said.Done o = Done o
-fate_by (said.Failed code) o = Failed code
+fate_by (said.Failed notice) o = Failed notice
 
 -- telemetry settles a request: it waits, and something is said of it
 abbrev pub settles : (starts : Bool) → Telemetry → Asked → Bool

@@ -1,5 +1,6 @@
 //! A request of a pass, and what became of it.
 
+use lpt_failures::FailureNotice;
 use lpt_packet::Octets;
 
 /// Octets of a memory, by their place.
@@ -31,8 +32,8 @@ pub enum Fate {
     Waiting,
     /// This packet was heard, which settles it.
     Done(Octets),
-    /// It was reported as failed, with this code.
-    Failed(u16),
+    /// It was reported as failed, with this notice.
+    Failed(FailureNotice),
 }
 
 /// A request of a pass.

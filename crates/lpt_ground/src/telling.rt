@@ -7,10 +7,10 @@ ghost use Rattle.lpt_ground.specs.Passes.{has_come};
 ghost use Rattle.lpt_ground.specs.Telling.{fate_by, is_answer, is_area, is_dump, is_success, report_of, said_of, said_with, settles, waits};
 
 use crate::{Asked, Awaits, Fate, Place, Terms};
+use lpt_failures::{FailureNotice, read_any_report};
 use lpt_packet::laws::seen_is_read;
 use lpt_packet::{Octets, Seen, crc16, read_packet};
 use lpt_pus::{TmHead, read_tm};
-use lpt_verify::read_report;
 
 /// The service types of verification and of memory management (ECSS-E-ST-70-41C).
 const VERIFICATION: u8 = 1;
@@ -37,8 +37,8 @@ const CHECKSUM: usize = 2;
 pub enum Said {
     /// It was carried out, and if something was asked, answered.
     Done,
-    /// It failed, with this code.
-    Failed(u16),
+    /// It failed, with this notice.
+    Failed(FailureNotice),
 }
 
 impl Said {
@@ -48,7 +48,7 @@ impl Said {
     {
         match self {
             Said::Done => Fate::Done(octets),
-            Said::Failed(code) => Fate::Failed(code),
+            Said::Failed(notice) => Fate::Failed(notice),
         }
     }
 }
@@ -89,11 +89,11 @@ impl Asked {
         ensures { result ≡ said_of starts (telemetry head.now body.now) self.now }
     {
         if head.service == VERIFICATION {
-            let report = read_report(head.subtype, body)?;
+            let report = read_any_report(head.subtype, body)?;
             if report.request.value != self.id {
                 return None;
             }
-            return said_with(report.code, self.awaits.is_success(starts, head.subtype));
+            return said_with(report.failure, self.awaits.is_success(starts, head.subtype));
         }
         if head.service == MEMORY && self.awaits.is_answer(head.subtype, body) {
             return Some(Said::Done);
@@ -102,12 +102,12 @@ impl Asked {
     }
 }
 
-// A failure with this code, or else a success that is awaited or isn't.
-fn said_with(code: Option<u16>, awaited: bool) -> Option<Said>
-    ensures { result ≡ said_with code awaited }
+// A failure with this notice, or else a success that is awaited or isn't.
+fn said_with(failure: Option<FailureNotice>, awaited: bool) -> Option<Said>
+    ensures { result ≡ said_with failure awaited }
 {
-    match code {
-        Some(code) => Some(Said::Failed(code)),
+    match failure {
+        Some(notice) => Some(Said::Failed(notice)),
         None if awaited => Some(Said::Done),
         None => None,
     }

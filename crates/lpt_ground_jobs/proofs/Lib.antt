@@ -1,3 +1,4 @@
+mod ApartLemmas
 mod AreaLemmas
 mod AtLemmas
 mod CutLemmas

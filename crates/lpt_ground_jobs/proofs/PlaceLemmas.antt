@@ -21,14 +21,15 @@ use Rattle.lpt_ground.specs.declared.pass.Step.TheVariants.{Put, Listen, Stop}
 use Rattle.lpt_ground.specs.Carrying.{come_to}
 use Rattle.lpt_ground.specs.Passes.{PassState, pass_begun, next_step, state_of}
 use Rattle.lpt_c_ground.specs.Calls.{CallsCarryAPass, step_word}
-use Rattle.lpt_c_ground.specs.Codes.{long_job, range}
+use Rattle.lpt_c_ground.specs.Codes.{bad_area, long_job, range}
 use Rattle.lpt_c_ground.specs.Jobs.{each_of, is_job, kind_from, numbers_fit, terms_of}
-use Rattle.lpt_c_ground.specs.Plans.{AreLoads, AreOf, IsNew, areas_of, fault_refusal, have_together, how_many, many_refusal, most, place_of}
+use Rattle.lpt_c_ground.specs.Plans.{AreLoads, AreOf, IsNew, areas_of, fault_refusal, have_together, how_many, many_refusal, most, place_of, some_overlap}
 use Rattle.lpt_c_ground.specs.declared.jobs.LptJob.{LptJob}
 use Rattle.lpt_c_ground.specs.declared.jobs.LptPlace.{LptPlace}
 use Rattle.lpt_ground_moves.specs.Chains.{DoneLeavesTheImage, messages_of}
 use Rattle.lpt_ground_jobs.specs.Alone.{AreAlone, image_of}
-use Rattle.lpt_ground_jobs.specs.Places.{AgreeingPlacesHaveTheContent, AllAgree, AreApart, CompletedLeavesTheContent, area_at, begins_at, image_at}
+use Rattle.lpt_ground_jobs.specs.Places.{AreApart, CompletedLeavesTheContent, LoadsAreApart, area_at, begins_at, image_at}
+use Rattle.lpt_ground_jobs.proofs.ApartLemmas.{none-overlap}
 use Rattle.lpt_ground_jobs.proofs.AtLemmas.{all-at}
 use Rattle.lpt_ground_jobs.proofs.LeavingLemmas.{done-leaves}
 use Rattle.lpt_ground_jobs.proofs.PacketLemmas.{AllLoad, planned-load}
@@ -164,27 +165,31 @@ in-ranges j is =
     }
 
 -- what isn't refused
-record Fine (job together : Bool) (fault : Option CutFault) : Type 0 where
+record Fine (job together over : Bool) (fault : Option CutFault) : Type 0 where
   pub is_job : job ≡ true
   pub faultless : fault ≡ None
   pub content : together ≡ true
+  pub apart : over ≡ false
 
-fine : (job : Bool) (fault : Option CutFault) (many together : Bool)
+fine : (job : Bool) (fault : Option CutFault) (many together over : Bool)
     → (if job then fault_refusal fault (if many then Some long_job
-    else (if together then None else Some range)) else Some range) ≡ None
-    → Fine job together fault
-fine false fault many together none = absurd cc
-fine true (Some e) many together none = absurd cc
-fine true None true together none = absurd cc
-fine true None false false none = absurd cc
-fine true None false true none =
-    record { is_job = refl; faultless = refl; content = refl }
+    else (if together then (if over then Some bad_area else None) else Some range))
+    else Some range) ≡ None
+    → Fine job together over fault
+fine false fault many together over none = absurd cc
+fine true (Some e) many together over none = absurd cc
+fine true None true together over none = absurd cc
+fine true None false false over none = absurd cc
+fine true None false true true none = absurd cc
+fine true None false true false none =
+    record { is_job = refl; faultless = refl; content = refl; apart = refl }
 
 -- what is known of a job of loads that isn't refused
 record IsSound (j : LptJob) (places : List LptPlace) (content : List ℕ) : Type 0 where
   pub ranges : InRanges j
   pub faultless : places_fault (map place_of places) ≡ None
   pub together : have_together places (length content) ≡ true
+  pub apart : AreApart places
 
 sound : (j : LptJob) (places : List LptPlace) (content : List ℕ)
     → j.kind ≡ 1
@@ -200,20 +205,57 @@ sound j places content loads unrefused =
     else Some range) ≡ None) loads unrefused in
     let is = fine (nat_le 1 1 && nat_le 1 3 && numbers_fit (kind_from 1) j)
     (places_fault (map place_of places)) (nat_lt most (how_many j.part_size places))
-    (have_together places (length content)) by_kind in
+    (have_together places (length content)) (some_overlap places) by_kind in
     record {
       ranges = in-ranges j is.is_job;
       faultless = is.faultless;
       together = is.content;
+      apart = none-overlap places is.apart;
     }
 
--- ---- an area of its own
+-- ---- octets that agree
+
+-- wherever one of the places has an octet for a place of the image, it is the image's
+abbrev AllAgree : List LptPlace → (content : List ℕ) → Image → Type 0
+AllAgree places content x =
+    (i : ℕ) (q : LptPlace)
+    → slice_get places i ≡ Some q
+    → Agrees x (area_at places content i q)
 
 -- an image's own area agrees with it
 own-agrees : (memory : ℕ) (a : Area) → Agrees (image_of memory a) a
 own-agrees memory a i within covers =
     let same : a.address + i - a.address ≡ i = omega arith in
     ap (λ (n : ℕ). get_or a.octets n 0) same
+
+-- places that are apart agree
+apart-agree : (j : LptJob) (places : List LptPlace) (content : List ℕ) (k : ℕ) (p : LptPlace)
+    → have_together places (length content) ≡ true
+    → AreApart places
+    → slice_get places k ≡ Some p
+    → AllAgree places content (image_at j places content k p)
+apart-agree j places content k p together apart there i q at =
+    elim (cases_eq i k) [
+      | inl same ↦
+          (let moved : slice_get places k ≡ Some q
+          = ap (slice_get places) (sym same) ∙ at in
+          let one : p ≡ q = cc in
+          let is : area_at places content k p ≡ area_at places content i q =
+          ap (λ (z : LptPlace). area_at places content k z) one
+          ∙ ap (λ (n : ℕ). area_at places content n q) (sym same) in
+          subst (Agrees (image_of j.memory (area_at places content k p))) is
+          (own-agrees j.memory (area_at places content k p)))
+      | inr other ↦
+          (let mine = whole places content k p (area_at places content k p) together there
+          (area-of-place places content k p there) in
+          let its = whole places content i q (area_at places content i q) together at
+          (area-of-place places content i q at) in
+          λ n within covers. absurd (
+          elim (apart i k q p at there other) [
+            | inl before ↦ omega (arith, before, mine, its, within, covers.from, covers.to)
+            | inr behind ↦ omega (arith, behind, mine, its, within, covers.from, covers.to)
+          ]))
+    ]
 
 -- ---- the law
 
@@ -226,11 +268,12 @@ done-by (Stop Failed) is = absurd cc
 done-by (Stop Given) is = absurd cc
 done-by (Stop Ended) is = absurd cc
 
-pub agreeing-places : CallsCarryAPass → DoneLeavesTheImage → AgreeingPlacesHaveTheContent
-agreeing-places carry image c first xs j places content place k p config can job done there agree
-    alone =
+pub completed-places : CallsCarryAPass → DoneLeavesTheImage → CompletedLeavesTheContent
+completed-places carry image c first xs j places content place k p config can job done there alone =
     let made : IsNew j places content done.new = done.made in
     let is : IsSound j places content = sound j places content job.loads made.unrefused in
+    let agree : AllAgree places content (image_at j places content k p) =
+    apart-agree j places content k p is.together is.apart there in
     let loads : AreLoads j.part_size j.memory (areas_of places content) made.requests =
     subst (λ (n : ℕ). AreOf (kind_from n) (each_of (kind_from n) j.part_size) j.memory places
     content made.requests) job.loads made.are in
@@ -282,39 +325,8 @@ agreeing-places carry image c first xs j places content place k p config can job
           done.put_out ended,
     )
 
--- places that are apart agree
-apart-agree : (j : LptJob) (places : List LptPlace) (content : List ℕ) (k : ℕ) (p : LptPlace)
-    → have_together places (length content) ≡ true
-    → AreApart places
-    → slice_get places k ≡ Some p
-    → AllAgree places content (image_at j places content k p)
-apart-agree j places content k p together apart there i q at =
-    elim (cases_eq i k) [
-      | inl same ↦
-          (let moved : slice_get places k ≡ Some q
-          = ap (slice_get places) (sym same) ∙ at in
-          let one : p ≡ q = cc in
-          let is : area_at places content k p ≡ area_at places content i q =
-          ap (λ (z : LptPlace). area_at places content k z) one
-          ∙ ap (λ (n : ℕ). area_at places content n q) (sym same) in
-          subst (Agrees (image_of j.memory (area_at places content k p))) is
-          (own-agrees j.memory (area_at places content k p)))
-      | inr other ↦
-          (let mine = whole places content k p (area_at places content k p) together there
-          (area-of-place places content k p there) in
-          let its = whole places content i q (area_at places content i q) together at
-          (area-of-place places content i q at) in
-          λ n within covers. absurd (
-          elim (apart i k q p at there other) [
-            | inl before ↦ omega (arith, before, mine, its, within, covers.from, covers.to)
-            | inr behind ↦ omega (arith, behind, mine, its, within, covers.from, covers.to)
-          ]))
-    ]
-
-pub apart-places : CallsCarryAPass → DoneLeavesTheImage → CompletedLeavesTheContent
-apart-places carry image c first xs j places content place k p config can job apart done there
-    alone =
-    let is : IsSound j places content =
-    sound j places content job.loads done.made.unrefused in
-    agreeing-places carry image c first xs j places content place k p config can job done there
-    (apart-agree j places content k p is.together apart there) alone
+-- a job of loads that has a pass has places that are apart
+pub loads-apart : LoadsAreApart
+loads-apart j places content g loads made =
+    let is : IsSound j places content = sound j places content loads made.unrefused in
+    is.apart

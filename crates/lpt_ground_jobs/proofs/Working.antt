@@ -21,6 +21,7 @@ use Rattle.lpt_requests.specs.declared.request.Request.{Request}
 use Rattle.lpt_requests.specs.declared.request.Request.TheVariants.{Load, Dump, Check}
 use Rattle.lpt_requests.specs.Cuts.{AreCut, AreasCut, as_load, view}
 use Rattle.lpt_verify.specs.Reading.{report_in}
+use Rattle.lpt_failures.specs.Failures.{any_report_in}
 use Rattle.lpt_events.specs.Arrivals.{arrival}
 use Rattle.lpt_events.specs.Configs.{IsConfig}
 use Rattle.lpt_execution.specs.Reporting.{opened_of, request_source}
@@ -49,7 +50,7 @@ use Rattle.lpt_journal_examples.proofs.LegalRows.{usual_pass}
 use Rattle.lpt_reported.specs.Alone.{IsNamed}
 use Rattle.lpt_reported.specs.Images.{Image, IsTrueTo}
 use Rattle.lpt_ground_jobs.specs.Alone.{AreAlone, IsAmong}
-use Rattle.lpt_ground_jobs.specs.Places.{AreApart, image_at, requests_of}
+use Rattle.lpt_ground_jobs.specs.Places.{image_at, requests_of}
 use Rattle.lpt_ground_jobs.specs.Worked.{JobsCanBeCompleted, answers, content, job, place, report, request, run}
 
 -- ---- its request
@@ -121,7 +122,7 @@ hears : next_step
     (come_to (terms_of job) (pass_begun (terms_of job) (asked-by request ∷ [])) answers)
     ≡ Stop Done
 unfolding packet_seen spelling checksum octets_in shift_all telemetry_in tm_field tm_verdict next_step
-    octets_heard said_in said_of report_of report_in
+    octets_heard said_in said_of report_of any_report_in report_in
 hears = refl
 
 -- ---- two ends
@@ -270,15 +271,9 @@ completed-can-be carry g new made goes =
         is_known = refl;
         fit = (omega arith, tt);
       };
-      apart = apart;
       says = ap step_word ended;
       put_out = put-out;
       alone =
           subst (λ (l : Log). AreAlone usual usual_memories l x 7 0 (requests_of g)) (sym logged)
           (subst (AreAlone usual usual_memories log x 7 0) (sym asked) (alone-all x));
     }
-  where
-    apart : AreApart (place ∷ [])
-    apart zero zero p q there at other = absurd (other refl)
-    apart zero (suc k) p q there at other = absurd cc
-    apart (suc i) k p q there at other = absurd cc

@@ -6,7 +6,7 @@ use Rattle.lpt_memory.specs.Memories.{Contents, content_of}
 use Rattle.lpt_events.specs.Configs.{IsConfig}
 use Rattle.lpt_events.specs.declared.config.Config.{Config}
 use Rattle.lpt_apart.specs.Moves.{Move, came_to, CanMoveAll}
-use Rattle.lpt_reported.specs.Images.{Agrees, Image, Stands}
+use Rattle.lpt_reported.specs.Images.{Image, Stands}
 use Rattle.lpt_ground.specs.Carrying.{Answer, packets_of}
 use Rattle.lpt_ground_moves.specs.Chains.{WerePutOut, messages_of}
 use Rattle.lpt_c_ground.specs.Calls.{GoesBy, step_of, step_word}
@@ -43,13 +43,6 @@ AreApart places =
     → i ≢ k
     → (p.address + p.len ≤ q.address) ⊎ (q.address + q.len ≤ p.address)
 
--- wherever one of the places has an octet for a place of the image, it is the image's
-abbrev pub AllAgree : List LptPlace → (content : List ℕ) → Image → Type 0
-AllAgree places content x =
-    (i : ℕ) (q : LptPlace)
-    → slice_get places i ≡ Some q
-    → Agrees x (area_at places content i q)
-
 -- ---- its pass
 
 -- A job of loads of the spacecraft's APID, whose places lie within one of the first memories.
@@ -80,23 +73,15 @@ requests_of g = messages_of g.pass.asked.items
 
 -- ---- the laws
 
--- a place with whose octets those of the other places agree
-abbrev pub AgreeingPlacesHaveTheContent : Type 0
-AgreeingPlacesHaveTheContent =
-    (c : Config) (first : Contents) (xs : List Move) (j : LptJob) (places : List LptPlace)
-    (content : List ℕ) (place k : ℕ) (p : LptPlace)
-    → IsConfig c
-    → CanMoveAll c first xs
-    → IsForMemory c first j places
-    → (done : IsCompleted c first xs j places content)
-    → slice_get places k ≡ Some p
-    → AllAgree places content (image_at j places content k p)
-    → AreAlone c first (came_to c first xs).ends.log (image_at j places content k p) j.source place
-    (requests_of done.new)
-    → (length (area_at places content k p).octets ≡ p.len)
-    × Stands (image_at j places content k p) (came_to c first xs).ends.memories
+-- those of a job of loads that has a pass are
+abbrev pub LoadsAreApart : Type 0
+LoadsAreApart =
+    (j : LptJob) (places : List LptPlace) (content : List ℕ) (g : Ground)
+    → j.kind ≡ 1
+    → IsNew j places content g
+    → AreApart places
 
--- each place, where they are apart
+-- each place has its octets
 abbrev pub CompletedLeavesTheContent : Type 0
 CompletedLeavesTheContent =
     (c : Config) (first : Contents) (xs : List Move) (j : LptJob) (places : List LptPlace)
@@ -104,7 +89,6 @@ CompletedLeavesTheContent =
     → IsConfig c
     → CanMoveAll c first xs
     → IsForMemory c first j places
-    → AreApart places
     → (done : IsCompleted c first xs j places content)
     → slice_get places k ≡ Some p
     → AreAlone c first (came_to c first xs).ends.log (image_at j places content k p) j.source place

@@ -14,7 +14,7 @@ use Rattle.lpt_c_ground.specs.declared.jobs.LptJob.{LptJob}
 use Rattle.lpt_c_ground.specs.declared.jobs.LptPlace.{LptPlace}
 use Rattle.lpt_journal_examples.specs.Passes.{load, usual, usual_memories}
 use Rattle.lpt_ground_jobs.specs.Alone.{AreAlone}
-use Rattle.lpt_ground_jobs.specs.Places.{AreApart, IsForMemory, image_at, requests_of}
+use Rattle.lpt_ground_jobs.specs.Places.{IsForMemory, image_at, requests_of}
 
 -- ---- the job
 
@@ -67,7 +67,6 @@ pub record IsMet (g new : Ground) : Type 0 where
   pub configured : IsConfig usual
   pub can : CanMoveAll usual usual_memories run
   pub for_memory : IsForMemory usual usual_memories job (place ∷ [])
-  pub apart : AreApart (place ∷ [])
   pub says : step_word (step_of new) ≡ 3
   pub put_out : WerePutOut usual usual_memories run (packets_of answers)
   pub alone : AreAlone usual usual_memories (came_to usual usual_memories run).ends.log

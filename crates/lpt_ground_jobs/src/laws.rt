@@ -2,7 +2,7 @@
 //! nothing.
 
 ghost use Rattle.lpt_ground_jobs.specs.Areas.{DoneLeavesTheAreas};
-ghost use Rattle.lpt_ground_jobs.specs.Places.{AgreeingPlacesHaveTheContent, CompletedLeavesTheContent};
+ghost use Rattle.lpt_ground_jobs.specs.Places.{CompletedLeavesTheContent, LoadsAreApart};
 ghost use Rattle.lpt_ground_jobs.specs.Worked.{JobsCanBeCompleted};
 
 use lpt_c_ground::laws::calls_carry_a_pass;
@@ -10,11 +10,10 @@ use lpt_ground_moves::laws::done_leaves_the_image;
 
 /// Take a job of loads as a C program gave it to `lpt_ground_new`, and calls that carried its pass.
 /// Once `lpt_ground_next` says that it is completed, the spacecraft's memory has at each of its
-/// places the octets of the content that the job gives it, if no address is in two of the places;
-/// else at each place where the others have the same octets.
+/// places the octets of the content that the job gives it. No address is in two of these places.
 pub fn completed_leaves_the_content()
-    ensures apart { CompletedLeavesTheContent }
-    ensures agreeing { AgreeingPlacesHaveTheContent }
+    ensures content { CompletedLeavesTheContent }
+    ensures apart { LoadsAreApart }
 {
     calls_carry_a_pass();
     done_leaves_the_image();

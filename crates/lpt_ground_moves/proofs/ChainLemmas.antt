@@ -10,6 +10,10 @@ use Rattle.lpt_pus.specs.Telemetry.{Telemetry, telemetry_in}
 use Rattle.lpt_memory.specs.Memories.{Contents}
 use Rattle.lpt_verify.specs.declared.report.Report.{Report}
 use Rattle.lpt_verify.specs.Reading.{report_in}
+use Rattle.lpt_failures.specs.declared.notice.FailureNotice.{FailureNotice}
+use Rattle.lpt_failures.specs.declared.reading.RequestReport.{RequestReport}
+use Rattle.lpt_failures.specs.Failures.{any_report_in, success_of}
+use Rattle.lpt_failures.proofs.FailureLemmas.{success-read}
 use Rattle.lpt_events.specs.declared.config.Config.{Config}
 use Rattle.lpt_apart.specs.Moves.{Move}
 use Rattle.lpt_reported.specs.Reported.{IsVerification}
@@ -48,37 +52,38 @@ success subtype true false true is7 is3 is = inl (grind (arith, nat_tests))
 success subtype true false false is7 is3 is = absurd cc
 success subtype false false three is7 is3 is = absurd cc
 
-with-done : (code : Option ℕ) (b : Bool) → said_with code b ≡ Some said.Done → b ≡ true
-with-done (Some code) b is = absurd cc
-with-done None true is = refl
+with-done : (failure : Option FailureNotice) (b : Bool) → said_with failure b ≡ Some said.Done
+    → (failure ≡ None) × (b ≡ true)
+with-done (Some notice) b is = absurd cc
+with-done None true is = (refl, refl)
 with-done None false is = absurd cc
 
-by-report : (starts : Bool) (t : Telemetry) (a : Asked) (r : Report) (same : Bool)
+by-report : (starts : Bool) (t : Telemetry) (a : Asked) (r : RequestReport) (same : Bool)
     → a.awaits ≡ Completion
     → t.service ≡ 1
-    → report_in t.subtype t.body ≡ Some r
+    → any_report_in t.subtype t.body ≡ Some r
     → (r.request.value == a.id) ≡ same
-    → (if same then said_with r.code (is_success starts a.awaits t.subtype) else None)
+    → (if same then said_with r.failure (is_success starts a.awaits t.subtype) else None)
     ≡ Some said.Done
     → IsCompletion t a.id
 by-report starts t a r false awaits one read is_same is = absurd cc
 by-report starts t a r true awaits one read is_same is =
-    let awaited : is_success starts a.awaits t.subtype ≡ true =
-    with-done r.code (is_success starts a.awaits t.subtype) is in
+    let done = with-done r.failure (is_success starts a.awaits t.subtype) is in
+    let awaited : is_success starts a.awaits t.subtype ≡ true = done.1 in
     record {
       of_service = one;
-      report = r;
-      is_report = read;
+      report = success_of r;
+      is_report = success-read t.subtype t.body r read done.0;
       of_request = grind (arith, nat_tests);
       of_subtype =
           success t.subtype starts (t.subtype == 7) (t.subtype == 3) refl refl
           (subst (λ (w : Awaits). is_success starts w t.subtype ≡ true) awaits awaited);
     }
 
-by-option : (starts : Bool) (t : Telemetry) (a : Asked) (m : Option Report)
+by-option : (starts : Bool) (t : Telemetry) (a : Asked) (m : Option RequestReport)
     → a.awaits ≡ Completion
     → t.service ≡ 1
-    → report_in t.subtype t.body ≡ m
+    → any_report_in t.subtype t.body ≡ m
     → said_by starts a t.subtype m ≡ Some said.Done
     → IsCompletion t a.id
 by-option starts t a None awaits one read is = absurd cc
@@ -100,12 +105,12 @@ no-answer six w subtype body awaits is =
 by-service : (starts : Bool) (t : Telemetry) (a : Asked) (one : Bool)
     → a.awaits ≡ Completion
     → (t.service == 1) ≡ one
-    → (if one then said_by starts a t.subtype (report_in t.subtype t.body)
+    → (if one then said_by starts a t.subtype (any_report_in t.subtype t.body)
     else if t.service == 6 && is_answer a.awaits t.subtype t.body then Some said.Done
     else None) ≡ Some said.Done
     → IsCompletion t a.id
 by-service starts t a true awaits is_one is =
-    by-option starts t a (report_in t.subtype t.body) awaits (grind (arith, nat_tests)) refl is
+    by-option starts t a (any_report_in t.subtype t.body) awaits (grind (arith, nat_tests)) refl is
 by-service starts t a false awaits is_one is =
     absurd (no-answer (t.service == 6) a.awaits t.subtype t.body awaits is)
 

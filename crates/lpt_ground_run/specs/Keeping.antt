@@ -18,7 +18,7 @@ all_asked (a ∷ asked) = a.octets ++ all_asked asked
 abbrev pub kept_by : Fate → List ℕ
 kept_by Waiting = []
 kept_by (Done o) = o
-kept_by (Failed code) = []
+kept_by (Failed notice) = []
 
 -- those of all, one behind the other
 abbrev pub all_kept : List Asked → List ℕ

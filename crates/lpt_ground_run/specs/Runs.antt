@@ -11,7 +11,7 @@ use Rattle.lpt_ground_run.specs.declared.runs.GroundRun.{GroundRun}
 abbrev pub outcome_of : Fate → Outcome
 outcome_of fates.Waiting = Open
 outcome_of (fates.Done o) = Done
-outcome_of (fates.Failed code) = Failed code
+outcome_of (fates.Failed notice) = Failed notice
 
 -- the same of a request
 abbrev pub became : Asked → Outcome

@@ -1,8 +1,9 @@
 //! The packets that settled requests, kept from one process to the next.
 
 ghost use Rattle.std.specs.Prelude.{◌≡◌, IfOk};
+ghost use Rattle.std.specs.List.{list_any};
 ghost use Rattle.sha2.specs.Sha256.{sha256};
-ghost use Rattle.lpt_ground.specs.Passes.{state_of};
+ghost use Rattle.lpt_ground.specs.Passes.{is_done, state_of};
 ghost use Rattle.lpt_ground_run.specs.Keeping.{all_asked, all_kept, kept_by, HearsAgain};
 
 use lpt_ground::{Asked, Fate, Pass};
@@ -58,4 +59,19 @@ pub fn hear_kept(alloc: Global, pass: &mut Pass, octets: &[u8]) -> Result<bool, 
         rest = behind;
     }
     Ok(rest.is_empty())
+}
+
+/// Whether a packet settled some of these requests. Of a pass that has only heard what was kept,
+/// it came in an earlier run.
+pub fn some_done(asked: &[Asked]) -> bool
+    ensures { result ≡ list_any is_done asked.now }
+{
+    asked.iter().any(|one| was_done(one))
+}
+
+// Whether a packet settled this one.
+fn was_done(asked: &Asked) -> bool
+    ensures { result ≡ is_done asked.now }
+{
+    matches!(asked.fate, Fate::Done(_))
 }

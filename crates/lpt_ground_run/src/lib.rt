@@ -6,7 +6,7 @@
 //! octets come from and with `Notes`, which are told before each round what became of the requests,
 //! and then `carry_pass`, or `carry_uplink` with what `plan_uplink` gives. `runs_of` says what
 //! became of them in few words; `kept_packets` and `hear_kept` take a pass from one process to the
-//! next.
+//! next, and `some_done` says whether an earlier one completed some of them.
 #![tactic(auto)]
 
 mod carrying;
@@ -27,8 +27,8 @@ pub use cutting::{Outlet, hand_packets};
 pub use halt::Halt;
 pub use heads::Heads;
 pub use hearing::{HearFault, Hearing, Notes};
-pub use keeping::{digest_of, hear_kept, kept_packets};
-pub use lpt_ground::{Asked, End, Fate, Pass};
+pub use keeping::{digest_of, hear_kept, kept_packets, some_done};
+pub use lpt_ground::{Asked, End, FailureNotice, Fate, Pass};
 pub use lpt_ground_large::{Large, Names, Uplink};
 pub use lpt_packet::Octets;
 pub use lpt_pus::AckFlags;

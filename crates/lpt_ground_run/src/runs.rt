@@ -4,7 +4,7 @@ ghost use Rattle.std.specs.Prelude.{◌≡◌, ◌∷◌, ◌++◌, [], IfOk, On
 ghost use Rattle.std.specs.Option.{option_to_list};
 ghost use Rattle.lpt_ground_run.specs.Runs.{became, outcome_of, spread};
 
-use lpt_ground::{Asked, Fate};
+use lpt_ground::{Asked, FailureNotice, Fate};
 use std::alloc::{AllocError, Global};
 
 /// What became of a request, without the packet that settled it.
@@ -14,8 +14,8 @@ pub enum Outcome {
     Open,
     /// A packet was heard that settles it.
     Done,
-    /// It was reported as failed, with this code.
-    Failed(u16),
+    /// It was reported as failed, with this notice.
+    Failed(FailureNotice),
 }
 
 /// Requests one behind the other of which the same became.
@@ -46,7 +46,7 @@ fn outcome_of(fate: &Fate) -> Outcome
     match fate {
         Fate::Waiting => Outcome::Open,
         Fate::Done(_) => Outcome::Done,
-        Fate::Failed(code) => Outcome::Failed(*code),
+        Fate::Failed(notice) => Outcome::Failed(*notice),
     }
 }
 

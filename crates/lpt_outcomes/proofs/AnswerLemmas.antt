@@ -3,6 +3,7 @@ use Rattle.std.proofs.Common.{◌≡◌, ◌∙◌, ap, sym, refl, ℕ, ◌==◌
 use Rattle.std.specs.Prelude.{◌||◌}
 use Rattle.std.specs.List.{flat_map, list_any}
 use Rattle.std.specs.Option.{option_or}
+use Rattle.lpt_failures.specs.declared.notice.FailureNotice.{FailureNotice}
 use Rattle.lpt_list.specs.declared.form.Form.{Form}
 use Rattle.lpt_outcomes.specs.declared.asked.Asked.{Asked}
 use Rattle.lpt_outcomes.specs.declared.news.ReportNews.{ReportNews}
@@ -24,13 +25,14 @@ or-false : (b : Bool) → (b || false) ≡ b
 or-false true = refl
 or-false false = refl
 
-or-none : (o : Option ℕ) → option_or o None ≡ o
+or-none : (o : Option FailureNotice) → option_or o None ≡ o
 or-none None = refl
-or-none (Some code) = refl
+or-none (Some notice) = refl
 
-or-assoc : (o p q : Option ℕ) → option_or o (option_or p q) ≡ option_or (option_or o p) q
+or-assoc : (o p q : Option FailureNotice)
+    → option_or o (option_or p q) ≡ option_or (option_or o p) q
 or-assoc None p q = refl
-or-assoc (Some code) p q = refl
+or-assoc (Some notice) p q = refl
 
 -- one more success
 joined-success : (o s : Outcome) (one three : Bool)
@@ -47,12 +49,12 @@ joined-success o s false false =
     ap (λ b. record (outcomes_joined o s) { completed = b }) (or-true o.completed)
 
 -- one more report
-joined-told : (o s : Outcome) (subtype : ℕ) (code : Option ℕ)
-    → outcomes_joined o (told_by s subtype code) ≡ told_by (outcomes_joined o s) subtype code
+joined-told : (o s : Outcome) (subtype : ℕ) (failure : Option FailureNotice)
+    → outcomes_joined o (told_by s subtype failure) ≡ told_by (outcomes_joined o s) subtype failure
 joined-told o s subtype None = joined-success o s (subtype == 1) (subtype == 3)
-joined-told o s subtype (Some code) =
+joined-told o s subtype (Some notice) =
     ap (λ f. record (outcomes_joined o s) { failure = f })
-    (or-assoc o.failure s.failure (Some code))
+    (or-assoc o.failure s.failure (Some notice))
 
 joined-nothing : (o : Outcome) → outcomes_joined o nothing_told ≡ o
 joined-nothing o =
@@ -80,7 +82,7 @@ one-told a s (n ∷ ns) =
         ≡ one (with_told a (Some s)) (n ∷ ns)
     by_id true e own other =
         rw e (own ∙ ap (λ (o : Outcome). one (record a { outcome = o }) ns)
-        (joined-told a.outcome s n.subtype n.report.code))
+        (joined-told a.outcome s n.subtype n.report.failure))
     by_id false e own other = rw e other
 
 -- from nothing on

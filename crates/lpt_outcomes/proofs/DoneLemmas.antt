@@ -10,6 +10,10 @@ use Rattle.lpt_verify.specs.declared.report.Report.{Report}
 use Rattle.lpt_verify.specs.Reading.{is_failure, is_success}
 use Rattle.lpt_verify.specs.Reports.{asks, failure, success, success_if}
 use Rattle.lpt_verify.proofs.ReadingLemmas.{IsReport-read}
+use Rattle.lpt_failures.specs.declared.notice.FailureNotice.{FailureNotice}
+use Rattle.lpt_failures.specs.declared.notice.FailureNotice.TheVariants.{Code}
+use Rattle.lpt_failures.specs.declared.reading.RequestReport.{RequestReport}
+use Rattle.lpt_failures.proofs.FailureLemmas.{own-read}
 use Rattle.lpt_outcomes.specs.declared.asked.Asked.{Asked}
 use Rattle.lpt_outcomes.specs.declared.news.ReportNews.{ReportNews}
 use Rattle.lpt_outcomes.specs.declared.outcome.Outcome.{Outcome}
@@ -22,35 +26,41 @@ use Rattle.lpt_outcomes.proofs.KeyLemmas.{same-self}
 -- ---- one report
 
 -- a report on a request, read
-abbrev on : ℕ → Option ℕ → Report
-on id code = record { request = record { value = id }; code = code }
+abbrev on : ℕ → Option FailureNotice → RequestReport
+on id failure = record { request = record { value = id }; failure = failure }
+
+-- the same in this project's form
+abbrev own_on : ℕ → Option ℕ → Report
+own_on id code = record { request = record { value = id }; code = code }
 
 success-told : (to id k : ℕ) → id < 2 ^ 32 → is_success k ≡ true
     → news_sent to (success id k) ≡ Some (news to k (on id None))
 success-told to id k fits coded =
-    ap (option_map (news to k)) (IsReport-read k (be id 4) (on id None) (record {
+    ap (option_map (news to k)) (own-read k (be id 4) (own_on id None)
+    (IsReport-read k (be id 4) (own_on id None) (record {
       is_coded = coded;
       request_fits = fits;
       code_fits = tt;
       spelled = sym (append-nil (be id 4));
-    }))
+    })))
 
 failure-told : (to id k code : ℕ) → id < 2 ^ 32 → code < 2 ^ 16 → is_failure k ≡ true
-    → news_sent to (failure id k code) ≡ Some (news to k (on id (Some code)))
+    → news_sent to (failure id k code) ≡ Some (news to k (on id (Some (Code code))))
 failure-told to id k code fits code_fits coded =
     ap (option_map (news to k))
-    (IsReport-read k (be id 4 ++ be code 2) (on id (Some code)) (record {
+    (own-read k (be id 4 ++ be code 2) (own_on id (Some code))
+    (IsReport-read k (be id 4 ++ be code 2) (own_on id (Some code)) (record {
       is_coded = coded;
       request_fits = fits;
       code_fits = code_fits;
       spelled = refl;
-    }))
+    })))
 
 -- what a request becomes by it
-own : (a : Asked) (k : ℕ) (code : Option ℕ)
-    → news_heard (news a.source k (on a.request.value code)) a
-    ≡ record a { outcome = told_by a.outcome k code }
-own a k code = rw (same-self (key_of a)) refl
+own : (a : Asked) (k : ℕ) (failure : Option FailureNotice)
+    → news_heard (news a.source k (on a.request.value failure)) a
+    ≡ record a { outcome = told_by a.outcome k failure }
+own a k failure = rw (same-self (key_of a)) refl
 
 -- ---- reports one after the other
 
@@ -81,10 +91,10 @@ by_success a true k fits coded =
 by_failure : (a : Asked) (k code : ℕ) → a.request.value < 2 ^ 32 → code < 2 ^ 16
     → is_failure k ≡ true
     → sent a.source (a ∷ []) (failure a.request.value k code ∷ [])
-    ≡ (record a { outcome = told_by a.outcome k (Some code) }) ∷ []
+    ≡ (record a { outcome = told_by a.outcome k (Some (Code code)) }) ∷ []
 by_failure a k code fits code_fits coded =
     rw (failure-told a.source a.request.value k code fits code_fits coded)
-    (ap (λ b. b ∷ []) (own a k (Some code)))
+    (ap (λ b. b ∷ []) (own a k (Some (Code code))))
 
 -- ---- all reports
 
@@ -153,7 +163,7 @@ carried_out a fits before =
 
 -- a failure isn't done
 undone : (a : Asked) (k code : ℕ) → a.outcome.failure ≡ None
-    → is_done (record a { outcome = told_by a.outcome k (Some code) }) ≡ false
+    → is_done (record a { outcome = told_by a.outcome k (Some (Code code)) }) ≡ false
 undone a k code none = rw none refl
 
 -- a success tells of none

@@ -3,7 +3,7 @@ use Rattle.std.specs.Prelude.{ℕ, ◌&&◌, ◌||◌, ◌<◌, not, is_some, Bo
 use Rattle.std.specs.List.{filter_map}
 use Rattle.std.specs.Option.{option_map}
 use Rattle.lpt_verify.specs.declared.report.EncodedReport.{EncodedReport}
-use Rattle.lpt_verify.specs.Reading.{report_in}
+use Rattle.lpt_failures.specs.Failures.{any_report_in}
 use Rattle.lpt_verify.specs.Reports.{all_reports, asks}
 use Rattle.lpt_outcomes.specs.declared.asked.Asked.{Asked}
 use Rattle.lpt_outcomes.specs.declared.news.ReportNews.{ReportNews}
@@ -38,7 +38,7 @@ pub record AreDone (requests : List Asked) (of_requests of_reports : Passed) : T
 
 -- what a report that is sent to this destination tells
 abbrev pub news_sent : (destination : ℕ) → EncodedReport → Option ReportNews
-news_sent destination e = option_map (news destination e.subtype) (report_in e.subtype e.body)
+news_sent destination e = option_map (news destination e.subtype) (any_report_in e.subtype e.body)
 
 -- requests once all reports have come that are sent on one of this source, this request ID and
 -- these flags, which failed with this code or was carried out

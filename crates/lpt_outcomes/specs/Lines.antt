@@ -3,6 +3,8 @@ use Rattle.std.specs.Prelude.{ℕ, ◌==◌, ◌||◌, not, nat_lt, is_some, Boo
 use Rattle.std.specs.List.{flat_map}
 use Rattle.hex.specs.Hex.{encode_lower}
 use Rattle.lpt_packet.specs.Numbers.{be}
+use Rattle.lpt_failures.specs.declared.notice.FailureNotice.{FailureNotice}
+use Rattle.lpt_failures.specs.declared.notice.FailureNotice.TheVariants.{Code, Unread}
 use Rattle.lpt_list.specs.declared.form.Form.{Form}
 use Rattle.lpt_list.specs.declared.form.Form.TheVariants.{Text, Json}
 use Rattle.lpt_list.specs.Items.{Item, Number, Alone, areas_said, items_text}
@@ -57,12 +59,17 @@ sentence code =
     else if code == 8 then codes "too many open"
     else codes "unknown code"
 
--- the failure, where one was
-abbrev pub failure_said : Option ℕ → List Item
-failure_said None = []
-failure_said (Some code) =
+-- a failure with this notice
+abbrev pub notice_said : FailureNotice → List Item
+notice_said (Code code) =
     Number (codes "failed") (codes "failure_code") code
     ∷ Alone (codes "failure") (sentence code) ∷ []
+notice_said Unread = Alone (codes "failure") (codes "failed, code not read") ∷ []
+
+-- the failure, where one was
+abbrev pub failure_said : Option FailureNotice → List Item
+failure_said None = []
+failure_said (Some notice) = notice_said notice
 
 -- whether anything was
 abbrev pub is_told : Outcome → Bool

@@ -8,8 +8,9 @@ use Rattle.lpt_pus.specs.declared.fault.PusFault.{PusFault}
 use Rattle.lpt_layout.specs.declared.layout.Layout.{Layout}
 use Rattle.lpt_layout.specs.Messages.{Said, message_verdict}
 use Rattle.lpt_layout.specs.Packets.{verdict_as}
-use Rattle.lpt_verify.specs.declared.report.Report.{Report}
-use Rattle.lpt_verify.specs.Reading.{report_in}
+use Rattle.lpt_failures.specs.declared.notice.FailureNotice.{FailureNotice}
+use Rattle.lpt_failures.specs.declared.reading.RequestReport.{RequestReport}
+use Rattle.lpt_failures.specs.Failures.{any_report_in}
 use Rattle.lpt_stream.specs.Pieces.{Piece}
 use Rattle.lpt_outcomes.specs.declared.asked.Asked.{Asked}
 use Rattle.lpt_outcomes.specs.declared.news.ReportNews.{ReportNews}
@@ -22,14 +23,14 @@ use Rattle.lpt_outcomes.specs.Passing.{all_found}
 -- ---- a report
 
 -- a report to this destination, of this subtype
-abbrev pub news : (destination subtype : ℕ) → Report → ReportNews
+abbrev pub news : (destination subtype : ℕ) → RequestReport → ReportNews
 news destination subtype r = record { destination = destination; subtype = subtype; report = r }
 
 -- the body of a verification report to this destination, of this subtype; one of progress that
 -- succeeded (5) tells of nothing that is waited for
 abbrev pub news_of_body : (destination subtype : ℕ) → List ℕ → Result ReportNews Beside
 news_of_body destination subtype body =
-    option_map_or (λ r. Ok (news destination subtype r)) (report_in subtype body)
+    option_map_or (λ r. Ok (news destination subtype r)) (any_report_in subtype body)
     (if subtype == 5 then Err Quiet else Err Unread)
 
 -- a packet that is read as telemetry, or isn't
@@ -53,9 +54,9 @@ news_of l pieces = all_found (news_in l) pieces
 
 -- ---- what it tells
 
--- a report of this subtype, of success or with a failure code: of several failures the first counts
-abbrev pub told_by : Outcome → (subtype : ℕ) → (code : Option ℕ) → Outcome
-told_by o subtype (Some code) = record o { failure = option_or o.failure (Some code) }
+-- a report of this subtype, of success or of a failure: of several failures the first counts
+abbrev pub told_by : Outcome → (subtype : ℕ) → (failure : Option FailureNotice) → Outcome
+told_by o subtype (Some notice) = record o { failure = option_or o.failure (Some notice) }
 told_by o subtype None =
     if subtype == 1 then (record o { accepted = true })
     else if subtype == 3 then (record o { started = true })
@@ -63,7 +64,7 @@ told_by o subtype None =
 
 -- an outcome with what a report tells
 abbrev pub outcome_told : Outcome → ReportNews → Outcome
-outcome_told o n = told_by o n.subtype n.report.code
+outcome_told o n = told_by o n.subtype n.report.failure
 
 -- a request with it, where the report is on this one
 abbrev pub news_heard : ReportNews → Asked → Asked

@@ -2,11 +2,12 @@
 
 ghost use Rattle.std.specs.Prelude.{◌≡◌, IfOk};
 ghost use Rattle.std.specs.String.{string_bytes};
+ghost use Rattle.lpt_failures.specs.declared.notice.FailureNotice.TheVariants.{Code, Unread};
 ghost use Rattle.lpt_list.specs.Items.{areas_said, items_text};
 ghost use Rattle.lpt_list.specs.Lists.{closing};
-ghost use Rattle.lpt_outcomes.specs.Lines.{asked_items, failure_said, flag_text, line_of, nothing_text, opening, pending_text, sentence, shared_said, success_text, unasked_said};
+ghost use Rattle.lpt_outcomes.specs.Lines.{asked_items, failure_said, flag_text, notice_said, line_of, nothing_text, opening, pending_text, sentence, shared_said, success_text, unasked_said};
 
-use crate::{Asked, Outcome};
+use crate::{Asked, FailureNotice, Outcome};
 use lpt_list::{Form, print_areas};
 use std::alloc::{AllocError, Global};
 
@@ -86,17 +87,35 @@ fn flag(alloc: Global, form: Form, word: &str, is: bool) -> Result<String, Alloc
     }
 }
 
-// The failure code, where a failure was reported.
-fn failure(alloc: Global, form: Form, code: Option<u16>) -> Result<String, AllocError>
-    ensures { IfOk result (λ t. string_bytes t ≡ items_text form (failure_said code)) }
+// The failure, where one was reported.
+fn failure(alloc: Global, form: Form, notice: Option<FailureNotice>) -> Result<String, AllocError>
+    ensures { IfOk result (λ t. string_bytes t ≡ items_text form (failure_said notice)) }
 {
-    let Some(code) = code else {
-        return Ok(String::new(alloc));
-    };
+    match notice {
+        None => Ok(String::new(alloc)),
+        Some(FailureNotice::Code(code)) => coded_failure(alloc, form, code),
+        Some(FailureNotice::Unread) => uncoded_failure(alloc, form),
+    }
+}
+
+// A failure with this code.
+fn coded_failure(alloc: Global, form: Form, code: u16) -> Result<String, AllocError>
+    ensures { IfOk result (λ t. string_bytes t ≡ items_text form (notice_said (Code code))) }
+{
     let why = sentence(code);
     match form {
         Form::Text => format!(in alloc; " failed {code} {why}"),
         Form::Json => format!(in alloc; ",\"failure_code\":{code},\"failure\":\"{why}\""),
+    }
+}
+
+// A failure whose code isn't read.
+fn uncoded_failure(alloc: Global, form: Form) -> Result<String, AllocError>
+    ensures { IfOk result (λ t. string_bytes t ≡ items_text form (notice_said Unread)) }
+{
+    match form {
+        Form::Text => format!(in alloc; " failed, code not read"),
+        Form::Json => format!(in alloc; ",\"failure\":\"failed, code not read\""),
     }
 }
 

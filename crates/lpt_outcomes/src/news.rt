@@ -1,14 +1,14 @@
 //! What a report tells.
 
 use crate::key::Key;
-use lpt_verify::Report;
+use lpt_failures::RequestReport;
 
 /// A verification report: its destination, its message subtype, and what its body says.
 #[derive(Clone, Copy)]
 pub(crate) struct ReportNews {
     pub(crate) destination: u32,
     pub(crate) subtype: u8,
-    pub(crate) report: Report,
+    pub(crate) report: RequestReport,
 }
 
 impl ReportNews {

@@ -1,6 +1,7 @@
 //! What verification reports have told of a request.
 
 use crate::news::ReportNews;
+use lpt_failures::FailureNotice;
 
 /// What verification reports have told of a request.
 #[derive(Clone, Copy)]
@@ -11,9 +12,9 @@ pub struct Outcome {
     pub started: bool,
     /// Whether the completion of its execution succeeded.
     pub completed: bool,
-    /// The failure code of the first report that its acceptance or the start of its execution
-    /// failed.
-    pub failure: Option<u16>,
+    /// The notice of the first report that its acceptance, or the start, the progress or the
+    /// completion of its execution failed.
+    pub failure: Option<FailureNotice>,
 }
 
 impl Outcome {
@@ -41,8 +42,8 @@ impl Outcome {
         ensures { result ≡ outcome_told self news.now }
     {
         let mut outcome = self;
-        match (news.report.code, news.subtype) {
-            (Some(code), _) => outcome.failure = outcome.failure.or(Some(code)),
+        match (news.report.failure, news.subtype) {
+            (Some(notice), _) => outcome.failure = outcome.failure.or(Some(notice)),
             (None, 1) => outcome.accepted = true,
             (None, 3) => outcome.started = true,
             (None, _) => outcome.completed = true,

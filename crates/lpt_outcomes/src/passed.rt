@@ -7,7 +7,7 @@ pub(crate) enum Beside {
     Part,
     /// A packet that isn't read as a telecommand among requests, or as telemetry among reports.
     Foreign,
-    /// Among reports, one of service 1 that isn't read, of anything but progress.
+    /// Among reports, one of service 1 that isn't read, but for one of successful progress.
     Unread,
     /// As many octets as their header says, that are no packet.
     Damaged,
@@ -25,7 +25,7 @@ pub struct Passed {
     pub parts: u64,
     /// Packets that aren't read as telecommands among requests, or as telemetry among reports.
     pub foreign: u64,
-    /// Verification reports that aren't read, but for those of progress.
+    /// Verification reports that aren't read, but for those of successful progress.
     pub unread: u64,
     /// Runs of octets that are no packets, each as long as its header says.
     pub damaged: u64,

@@ -17,12 +17,12 @@ use crate::passed::Beside;
 use crate::{Asked, Layout, Outcome};
 use lpt_areas::read_areas;
 use lpt_events::part_kind;
+use lpt_failures::read_any_report;
 use lpt_layout::{Message, PacketAs, SeenAs, read_sealed_as, read_tc_as, read_tm_as};
 use lpt_memory::fields;
 use lpt_packet::Direction;
 use lpt_pus::RequestId;
 use lpt_stream::{Cut, PieceKind};
-use lpt_verify::read_report;
 
 /// The service type of request verification (ECSS-E-ST-70-41C).
 const VERIFICATION: u8 = 1;
@@ -157,7 +157,7 @@ fn news_in_message(message: &Message<'_>) -> Result<ReportNews, Beside>
 fn news_in_body(destination: u32, subtype: u8, body: &[u8]) -> Result<ReportNews, Beside>
     ensures { result ≡ news_of_body destination subtype body.now }
 {
-    match read_report(subtype, body) {
+    match read_any_report(subtype, body) {
         Some(report) => Ok(ReportNews {
             destination,
             subtype,

@@ -1,0 +1,9 @@
+-- The lemmas say it.
+use Rattle.lpt_failures.proofs.FailureLemmas.{own-read, success-read}
+use Rattle.lpt_failures.proofs.laws.own_reports_are_read.Goals as goal
+
+pub returns-clause-read : goal.returns-clause-read
+returns-clause-read c = own-read
+
+pub returns-clause-success : goal.returns-clause-success
+returns-clause-success c = success-read

@@ -1,0 +1,51 @@
+-- What a verification report of any spacecraft says of its request.
+use Rattle.std.specs.Prelude.{ℕ, ◌==◌, ◌&&◌, ◌||◌, not, nat_le, Bool, if◌then◌else◌, List, length, Option, Some, None}
+use Rattle.std.specs.Option.{option_map}
+use Rattle.lpt_packet.specs.Numbers.{word_at}
+use Rattle.lpt_pus.specs.Numbers.{long_at}
+use Rattle.lpt_verify.specs.declared.report.Report.{Report}
+use Rattle.lpt_verify.specs.Reading.{report_in}
+use Rattle.lpt_failures.specs.declared.notice.FailureNotice.{FailureNotice}
+use Rattle.lpt_failures.specs.declared.notice.FailureNotice.TheVariants.{Code, Unread}
+use Rattle.lpt_failures.specs.declared.reading.RequestReport.{RequestReport}
+
+-- the message subtypes of reports of failure: of acceptance, start, progress and completion of
+-- execution
+abbrev pub fails : (subtype : ℕ) → Bool
+fails subtype = subtype == 2 || subtype == 4 || subtype == 6 || subtype == 8
+
+-- a failure code of 16 bits, and nothing else, stands behind the request ID; in a report of
+-- progress a step ID stands there
+abbrev pub has_code : (subtype len : ℕ) → Bool
+has_code subtype len = not (subtype == 6) && len == 6
+
+-- why the request failed
+abbrev pub notice_in : (subtype : ℕ) → List ℕ → FailureNotice
+notice_in subtype body = if has_code subtype (length body) then Code (word_at body 4) else Unread
+
+-- the report that a request of this ID failed
+abbrev pub failure_of : (subtype id : ℕ) → List ℕ → RequestReport
+failure_of subtype id body = record {
+  request = record { value = id };
+  failure = Some (notice_in subtype body);
+}
+
+-- what a report of success says, in this project's form
+abbrev pub as_success : Report → RequestReport
+as_success r = record { request = r.request; failure = None }
+
+-- The report that a body is, of this message subtype, where it is read: one of failure begins with
+-- the request ID, and one of success is of this project's form.
+unfoldable pub any_report_in : (subtype : ℕ) → List ℕ → Option RequestReport
+any_report_in subtype body =
+    if fails subtype && nat_le 4 (length body) then
+    Some (failure_of subtype (long_at body 0) body)
+    else option_map as_success (report_in subtype body)
+
+-- what a report of this project's form says
+abbrev pub as_own : Report → RequestReport
+as_own r = record { request = r.request; failure = option_map Code r.code }
+
+-- the report of success, in this project's form, that says the same
+abbrev pub success_of : RequestReport → Report
+success_of r = record { request = r.request; code = None }

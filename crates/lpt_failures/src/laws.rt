@@ -1,0 +1,24 @@
+//! What the definitions say of reports, proved of all bodies: functions with empty bodies.
+
+ghost use Rattle.std.specs.Prelude.{◌≡◌, ℕ, ◌<◌, ◌^◌, ◌++◌, List, IsTrue, Some, None};
+ghost use Rattle.lpt_packet.specs.Numbers.{be};
+ghost use Rattle.lpt_verify.specs.declared.report.Report.{Report};
+ghost use Rattle.lpt_verify.specs.Reading.{report_in};
+ghost use Rattle.lpt_failures.specs.declared.reading.RequestReport.{RequestReport};
+ghost use Rattle.lpt_failures.specs.Failures.{any_report_in, as_own, failure_of, fails, success_of};
+
+/// A report of this project's form says what it says there; and one that reports no failure is of
+/// that form.
+pub fn own_reports_are_read()
+    ensures read { (subtype : ℕ) (body : List ℕ) (r : Report)
+        → report_in subtype body ≡ Some r → any_report_in subtype body ≡ Some (as_own r) }
+    ensures success { (subtype : ℕ) (body : List ℕ) (r : RequestReport)
+        → any_report_in subtype body ≡ Some r → r.failure ≡ None
+        → report_in subtype body ≡ Some (success_of r) }
+{}
+
+/// A report of failure is read as one of its request, whatever stands behind the request ID.
+pub fn failures_name_their_request()
+    ensures { (subtype id : ℕ) (rest : List ℕ) → IsTrue (fails subtype) → id < 2 ^ 32
+        → any_report_in subtype (be id 4 ++ rest) ≡ Some (failure_of subtype id (be id 4 ++ rest)) }
+{}
