@@ -58,8 +58,8 @@ laid_kind kind number passed =
 abbrev pub is_untaken : LoadArea → Bool
 is_untaken a = not (is_taken a)
 
--- no dump report; a part of a message; a report of another APID, of a body that isn't read, of
--- another memory; a report with so many areas that aren't taken
+-- no dump report; a part of a message; a report or a part of another APID; a report of a body that
+-- isn't read, of another memory; a report with so many areas that aren't taken
 abbrev pub laid_of : LptImage → Saying → LptLaid
 laid_of i Other = laid_kind 0 0 0
 laid_of i APart = laid_kind 1 0 0

@@ -34,7 +34,8 @@ pub struct LptLaid {
     /// The other APID, how many octets the body has that isn't read, or the other memory; or 0.
     pub number: usize,
     /// What the message is: 0 no dump report, 1 a part of a message, which may be one, 2 a dump
-    /// report of another APID, 3 one that isn't read, 4 one of another memory, 5 one of the memory.
+    /// report or a part of another APID, 3 a report that isn't read, 4 one of another memory, 5 one
+    /// of the memory.
     pub kind: u32,
     /// How many of its areas aren't taken; 1 if it isn't read.
     pub passed: u32,
@@ -94,15 +95,15 @@ fn lay(layouts: &Layouts, octets: &[u8], of: &LptImage, image: &mut [u8], laid: 
 {
     match dump_in(&layouts.telemetry.packets, octets) {
         Some(Dump::Report(apid, body)) if apid == of.apid => lay_body(body, of, image, laid),
-        Some(Dump::Report(apid, _)) => {
-            *laid = laid_kind(FOREIGN, usize::from(apid), 0);
-            DONE
-        }
         Some(Dump::PartOf(apid)) if apid == of.apid => {
             *laid = laid_kind(PART, 0, 0);
             DONE
         }
-        Some(Dump::PartOf(_)) | None => {
+        Some(Dump::Report(apid, _)) | Some(Dump::PartOf(apid)) => {
+            *laid = laid_kind(FOREIGN, usize::from(apid), 0);
+            DONE
+        }
+        None => {
             *laid = laid_kind(OTHER, 0, 0);
             DONE
         }

@@ -31,12 +31,14 @@ one_area octets = do
     checksum.1,
   )
 
--- What a packet is to who looks for check reports of a memory: one that says this of its areas, if
--- of the memory's; one that isn't read; a part of a message, which may be one; or none of these.
+-- What a packet is to who looks for check reports of an APID and a memory: one that says this of
+-- its areas, if of the memory's; one that isn't read; a part of a message, which may be one; a
+-- check report or a part of this other APID; or none of these.
 pub data Saying : Type 0 where
   Areas : List Checked → Saying
   Unread : Saying
   APart : Saying
+  Foreign : (apid : ℕ) → Saying
   Other : Saying
 
 -- the areas, where they are of this memory
@@ -58,11 +60,11 @@ is_report s = (s.service == 6) && (s.subtype == 10)
 abbrev pub is_part : Said → Bool
 is_part s = (s.service == 13) && (nat_le 1 s.subtype && nat_le s.subtype 3)
 
--- telemetry of this APID; that of others is none of these
+-- telemetry, to who looks for this APID
 abbrev pub said_of : (apid memory : ℕ) → Said → Saying
 said_of apid m s =
-    if s.apid == apid
-    then (if is_report s then in_body m s.body else if is_part s then APart else Other)
+    if is_report s then (if s.apid == apid then in_body m s.body else Foreign s.apid)
+    else if is_part s then (if s.apid == apid then APart else Foreign s.apid)
     else Other
 
 -- a packet that is read as telemetry, or isn't
@@ -85,6 +87,7 @@ abbrev pub areas_in : Saying → List Checked
 areas_in (Areas areas) = areas
 areas_in Unread = []
 areas_in APart = []
+areas_in (Foreign apid) = []
 areas_in Other = []
 
 -- what octets say

@@ -4,7 +4,7 @@ use Rattle.lpt_packet.specs.declared.fault.PacketFault.{PacketFault}
 use Rattle.lpt_packet.specs.Packets.{Sight, IdlePacket, APacket, verdict}
 use Rattle.lpt_pus.specs.declared.fault.PusFault.{PusFault}
 use Rattle.lpt_pus.specs.Telemetry.{Telemetry, tm_verdict}
-use Rattle.lpt_compare.specs.Checks.{Saying, APart, Other, in_body}
+use Rattle.lpt_compare.specs.Checks.{Saying, APart, Foreign, Other, in_body}
 
 -- whether telemetry is a check report
 abbrev pub reports : Telemetry → Bool
@@ -14,11 +14,11 @@ reports t = (t.service == 6) && (t.subtype == 10)
 abbrev pub carries : Telemetry → Bool
 carries t = (t.service == 13) && (nat_le 1 t.subtype && nat_le t.subtype 3)
 
--- telemetry of this APID; that of others is none of these
+-- telemetry, to who looks for this APID
 abbrev pub told_of : (apid memory : ℕ) → Telemetry → Saying
 told_of apid m t =
-    if t.apid == apid
-    then (if reports t then in_body m t.body else if carries t then APart else Other)
+    if reports t then (if t.apid == apid then in_body m t.body else Foreign t.apid)
+    else if carries t then (if t.apid == apid then APart else Foreign t.apid)
     else Other
 
 -- a packet that is read as telemetry, or isn't

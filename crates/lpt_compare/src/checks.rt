@@ -8,7 +8,7 @@ ghost use Rattle.lpt_stream.specs.Takes.{ReadsBy};
 ghost use Rattle.lpt_compare.specs.Read.{AreChecks};
 
 use crate::reading::{Said, cut_for, said_in_piece};
-use crate::{Checked, Layout};
+use crate::{Checked, Layout, Others};
 use lpt_stream::{Cut, PieceKind, Taker, take_pieces};
 use lpt_text::{FromStd, Sink, Source, StreamFault};
 use std::alloc::{AllocError, Global};
@@ -27,11 +27,13 @@ pub struct Checks {
     pub unread: u64,
     /// Parts of messages of the APID, which may be check reports.
     pub parts: u64,
+    /// Check reports and parts of other APIDs.
+    pub others: Others,
 }
 
 /// The areas of the check reports of this layout among the packets of a stream that are of this
 /// APID and of this memory. Other packets are passed over; check reports that aren't read, parts of
-/// messages, and what is no packet are counted.
+/// messages, both of other APIDs, and what is no packet are counted.
 ///
 /// Errors: `Read` if a read failed, or if 2^64 - 1 pieces came; `Memory`.
 pub fn read_checks<S: Source>(
@@ -60,6 +62,7 @@ pub fn read_checks<S: Source>(
             stray: 0,
             unread: 0,
             parts: 0,
+            others: Others::new(),
         },
     };
     let mut out = FromStd::new(Vec::new(alloc));
@@ -86,6 +89,7 @@ impl Checks {
             → AreCounted (ps ++ p ∷ []) self.new }
         ensures unread { self.new.unread ≡ self.old.unread }
         ensures parts { self.new.parts ≡ self.old.parts }
+        ensures others { self.new.others ≡ self.old.others }
     {
         match kind {
             PieceKind::Whole => {}
@@ -108,6 +112,7 @@ impl Checks {
             Said::Areas(_) => {}
             Said::Unread => self.unread = self.unread.saturating_add(1),
             Said::Part => self.parts = self.parts.saturating_add(1),
+            Said::Foreign(apid) => self.others.add(*apid),
             Said::Other => {}
         }
     }
@@ -120,6 +125,7 @@ impl Checks {
         ensures stray { self.new.stray ≡ self.old.stray }
         ensures unread { self.new.unread ≡ self.old.unread }
         ensures parts { self.new.parts ≡ self.old.parts }
+        ensures others { self.new.others ≡ self.old.others }
     {
         if let Said::Areas(areas) = said {
             self.areas.extend_from_slice(areas)?;

@@ -10,6 +10,7 @@ mod checked;
 mod checks;
 mod image;
 pub mod laws;
+mod others;
 mod reading;
 
 pub use checked::Checked;
@@ -17,3 +18,4 @@ pub use checks::{Checks, read_checks};
 pub use image::Image;
 pub use lpt_carried::Layout;
 pub use lpt_text::{Source, StreamFault};
+pub use others::Others;

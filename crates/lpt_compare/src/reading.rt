@@ -40,6 +40,8 @@ pub(crate) enum Said {
     Unread,
     // A part of a message, which may be one.
     Part,
+    // One of this other APID, or a part of that.
+    Foreign(u16),
     // None of these.
     Other,
 }
@@ -119,12 +121,12 @@ fn in_message(
 ) -> Result<Said, AllocError>
     ensures { IfOk result (λ r. saying_of r ≡ said_by apid memory (Ok (message_said message.now))) }
 {
-    if message.apid != apid {
-        return Ok(Said::Other);
-    }
+    let is_own = message.apid == apid;
     match (message.service, message.subtype) {
-        (MEMORY, CHECK_REPORT) => in_body(alloc, memory, message.body),
-        (LARGE_PACKETS, FIRST_PART..=LAST_PART) => Ok(Said::Part),
+        (MEMORY, CHECK_REPORT) if is_own => in_body(alloc, memory, message.body),
+        (LARGE_PACKETS, FIRST_PART..=LAST_PART) if is_own => Ok(Said::Part),
+        (MEMORY, CHECK_REPORT) => Ok(Said::Foreign(message.apid)),
+        (LARGE_PACKETS, FIRST_PART..=LAST_PART) => Ok(Said::Foreign(message.apid)),
         _ => Ok(Said::Other),
     }
 }

@@ -13,8 +13,8 @@ use Rattle.lpt_memory.specs.ReplyKinds.{subtype_of}
 use Rattle.lpt_memory.specs.Requests.{LoadArea, Request, front_load_area, request_in}
 use Rattle.lpt_extract.specs.declared.wanted.Wanted.{Wanted}
 
--- No dump report; a part of a message, which may be one; one of another APID; one whose body, of so
--- many octets, isn't read; a memory and its areas.
+-- No dump report; a part of a message, which may be one; one of another APID, or a part of that;
+-- one whose body, of so many octets, isn't read; a memory and its areas.
 pub data Saying : Type 0 where
   Other : Saying
   APart : Saying
@@ -58,7 +58,7 @@ body_report body = read_as (length body) (request_in front_load_area body)
 -- what they say to whom wants dump reports of this APID
 abbrev pub said_in : ℕ → Option DumpOrPart → Saying
 said_in apid (Some (ADump a body)) = if a == apid then body_report body else Foreign a
-said_in apid (Some (APartOf a)) = if a == apid then APart else Other
+said_in apid (Some (APartOf a)) = if a == apid then APart else Foreign a
 said_in apid None = Other
 
 -- what octets say

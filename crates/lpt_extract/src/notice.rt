@@ -17,7 +17,8 @@ pub enum Notice {
     Unread(usize, u64),
     /// A report is of this memory, which isn't the one that is wanted.
     OtherMemory(u8),
-    /// A dump report is of this application process, which isn't the one that is wanted.
+    /// A dump report, or a part of a message, is of this application process, which isn't the one
+    /// that is wanted.
     OtherApid(u16),
     /// A packet carries a part of a message, and this wasn't read: it may be a dump report; the
     /// packet's place.

@@ -40,7 +40,7 @@ pub(crate) enum Report<'a> {
     Other,
     /// They carry a part of a message, which may be one.
     OfPart,
-    /// They are one of this other APID.
+    /// They are one of this other APID, or a part of that.
     Foreign(u16),
     /// They are one whose body, of so many octets, isn't read.
     Unread(usize),
@@ -61,7 +61,8 @@ pub(crate) fn read_report<'a>(
         Some(Dump::Report(of, body)) if of == apid => read_body(alloc, body),
         Some(Dump::Report(of, _)) => Ok(Report::Foreign(of)),
         Some(Dump::PartOf(of)) if of == apid => Ok(Report::OfPart),
-        Some(Dump::PartOf(_)) | None => Ok(Report::Other),
+        Some(Dump::PartOf(of)) => Ok(Report::Foreign(of)),
+        None => Ok(Report::Other),
     }
 }
 

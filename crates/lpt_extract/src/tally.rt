@@ -10,7 +10,7 @@ pub struct Tally {
     pub passed: u64,
     /// Reports of other memories.
     pub memories: Others,
-    /// Dump reports of other application processes.
+    /// Dump reports and parts of messages of other application processes.
     pub apids: Others,
     /// Packets that carry a part of a message which wasn't read, and may be a dump report; of the
     /// first of them its place.

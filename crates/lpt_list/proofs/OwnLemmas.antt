@@ -1,5 +1,5 @@
 -- At the profile's own layouts a list says what the profile's own readers read.
-use Rattle.std.proofs.Common.{◌≡◌, ◌∙◌, ap, sym, subst, refl, ℕ, ◌+◌, ◌*◌, ◌<◌, ◌^◌, ◌/◌, ◌==◌, nat_le, Bool, true, false, List, [], ◌∷◌, ◌++◌, length, slice_index, Option, Some, None, Result, Ok, Err, arith}
+use Rattle.std.proofs.Common.{◌≡◌, ◌∙◌, ap, sym, subst, refl, ℕ, ◌+◌, ◌-◌, ◌*◌, ◌<◌, ◌^◌, ◌/◌, ◌==◌, nat_le, Bool, true, false, List, [], ◌∷◌, ◌++◌, length, slice_index, Option, Some, None, Result, Ok, Err, arith}
 use Rattle.std.specs.Option.{option_map_or}
 use Rattle.std.specs.Result.{result_ok}
 use Rattle.lpt_packet.specs.declared.fault.PacketFault.{PacketFault}
@@ -56,9 +56,11 @@ module _ (p : ℕ) (reads : (kind : Kind) (b : List ℕ) → IsOctets b
       → option_map_or (part_as (own p kind) body) k rest ≡ option_map_or (part_said p body) k rest
   carried-own kind body None rest o = refl
   carried-own Tm body (Some part) rest o =
-      ap (λ v. option_map_or part_items (result_ok v) unread_items) (reads part body o)
+      ap (λ v. option_map_or part_items (result_ok v) (unread_items (length body - 4)))
+      (reads part body o)
   carried-own Tc body (Some part) rest o =
-      ap (λ v. option_map_or part_items (result_ok v) unread_items) (reads part body o)
+      ap (λ v. option_map_or part_items (result_ok v) (unread_items (length body - 4)))
+      (reads part body o)
 
   -- telemetry, whatever its tests say
   telemetry-own : (f : Fields) → IsOctets f.octets

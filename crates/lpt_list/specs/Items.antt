@@ -80,9 +80,11 @@ part_fields kind id number octets =
 abbrev pub part_items : Piece → List Item
 part_items q = part_fields q.kind q.id q.number (length q.octets)
 
--- what should be a part, and isn't read as one of this part size
-abbrev pub unread_items : List Item
-unread_items = Word (codes "part") (codes "part") (codes "unread") ∷ []
+-- what should be a part of so many octets, and isn't read as one of the part size
+abbrev pub unread_items : (octets : ℕ) → List Item
+unread_items octets =
+    Word (codes "part") (codes "part") (codes "unread")
+    ∷ Number (codes "octets") (codes "part_octets") octets ∷ []
 
 -- the report that the reception of a large message was aborted
 abbrev pub abort_items : ℕ × Reason → List Item

@@ -1,5 +1,5 @@
 -- What a line of a list says of octets of the profile, in the words of its own readers.
-use Rattle.std.specs.Prelude.{ℕ, List, [], ◌∷◌, ◌++◌, codes, Result, Ok, Err}
+use Rattle.std.specs.Prelude.{ℕ, ◌-◌, List, [], ◌∷◌, ◌++◌, length, codes, Result, Ok, Err}
 use Rattle.std.specs.Option.{option_map_or}
 use Rattle.lpt_packet.specs.declared.direction.Direction.TheVariants.{Up, Down}
 use Rattle.lpt_packet.specs.declared.fault.PacketFault.{PacketFault}
@@ -38,7 +38,8 @@ tm_items t =
 
 -- a body that should be a part of this kind
 abbrev pub part_said : ℕ → List ℕ → Kind → List Item
-part_said p body kind = option_map_or part_items (part_in p kind body) unread_items
+part_said p body kind =
+    option_map_or part_items (part_in p kind body) (unread_items (length body - 4))
 
 -- what a telecommand carries, where that is a part or a request that names areas
 abbrev pub tc_carried : ℕ → Command → List Item

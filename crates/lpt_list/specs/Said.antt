@@ -132,7 +132,8 @@ part_at t kind b = part_of_size t kind b (size_for t b)
 
 -- a body that should be a part of this kind
 abbrev pub part_as : Tailored → List ℕ → Kind → List Item
-part_as t b kind = option_map_or part_items (part_at t kind b) unread_items
+part_as t b kind =
+    option_map_or part_items (part_at t kind b) (unread_items (length b - octets_at t.parts))
 
 -- a request that names areas, or a report
 abbrev pub other_as : PacketKind → Said → List Item

@@ -154,7 +154,10 @@ fn add_part(
             let len = part.octets.len();
             add_part_fields(text, form, part.kind, part.id, part.number, len)
         }
-        None => add_unread(text, form),
+        None => {
+            let len = body.len().saturating_sub(tailored.parts.header());
+            add_unread(text, form, len)
+        }
     }
 }
 
@@ -223,13 +226,13 @@ fn add_part_fields(
     }
 }
 
-// Adds that a part isn't read.
-fn add_unread(text: &mut String, form: Form) -> Result<(), AllocError>
+// Adds that a part of so many octets isn't read.
+fn add_unread(text: &mut String, form: Form, octets: usize) -> Result<(), AllocError>
     ensures { OnOk result (string_bytes text.new
-        ≡ string_bytes text.old ++ items_text form unread_items) }
+        ≡ string_bytes text.old ++ items_text form (unread_items octets)) }
 {
     match form {
-        Form::Text => text.push_str(" part unread"),
-        Form::Json => text.push_str(",\"part\":\"unread\""),
+        Form::Text => write!(text, " part unread octets {octets}"),
+        Form::Json => write!(text, ",\"part\":\"unread\",\"part_octets\":{octets}"),
     }
 }

@@ -1,7 +1,8 @@
 -- A piece more.
-use Rattle.std.proofs.Common.{◌∙◌, ap, sym, refl, ◌++◌}
+use Rattle.std.proofs.Common.{◌∙◌, ap, sym, subst, refl, ℕ, List, [], ◌∷◌, ◌++◌, flat_map}
 use Rattle.lpt_stream.specs.Pieces.{Piece}
-use Rattle.lpt_compare.specs.Checks.{areas_in, checks_of}
+use Rattle.lpt_compare.specs.Checks.{areas_in, checks_of, piece_said}
+use Rattle.lpt_compare.specs.Read.{apid_of, AreOthers}
 use Rattle.lpt_compare.specs.Sayings.{saying_of}
 use Rattle.lpt_compare.proofs.CheckLemmas.{checks-next}
 use Rattle.lpt_compare.proofs.checks.CheckTakerTakerUnit.take.Goals as goal
@@ -10,11 +11,16 @@ pub returns-in-Ok-keep-clause-taken : goal.returns-in-Ok-keep-clause-taken
 returns-in-Ok-keep-clause-taken g c = λ from first old pieces h at.
     let was = c.args.self in
     let p : Piece = record { kind = c.args.kind; octets = c.args.octets.now } in
+    let apids : List Piece → List ℕ
+    = flat_map (λ (q : Piece). apid_of
+    (piece_said was.layout was.apid was.memory q.kind q.octets)) in
     let counted = c.count.ensures.counted pieces p refl h.checks_are.counted in
     let passed = c.pass.ensures.passed was.layout was.apid was.memory pieces p c.in-Ok.ensures
     record {
       unread_are = c.count.ensures.unread ∙ h.checks_are.passed.unread_are;
       parts_are = c.count.ensures.parts ∙ h.checks_are.passed.parts_are;
+      others_are = subst (AreOthers (apids pieces)) (sym c.count.ensures.others)
+          h.checks_are.passed.others_are;
     } in
     record {
       same_layout = h.same_layout;
@@ -36,6 +42,8 @@ returns-in-Ok-keep-clause-taken g c = λ from first old pieces h at.
         passed = record {
           unread_are = c.keep.ensures.unread ∙ passed.unread_are;
           parts_are = c.keep.ensures.parts ∙ passed.parts_are;
+          others_are = subst (AreOthers (apids (pieces ++ p ∷ []))) (sym c.keep.ensures.others)
+              passed.others_are;
         };
       };
     }
