@@ -3,6 +3,7 @@
 ghost use Rattle.std.specs.Prelude.{◌≤◌, IfOk, length};
 ghost use Rattle.std.specs.Io.{ReadsAtMost, WritesAtMost};
 
+use crate::cases::Files;
 use std::alloc::Global;
 use std::io::{self, ErrorKind, Read};
 
@@ -78,6 +79,15 @@ impl Content {
             Some(number) => self.octets_of(number),
             None => &[],
         }
+    }
+
+    /// Has these octets in a file of this path too.
+    ///
+    /// Errors: memory ran out.
+    pub(crate) fn hold(&mut self, path: &str, octets: &[u8]) -> io::Result<()> {
+        let number = self.new_file(path)?;
+        self.append(number, octets)?;
+        Ok(())
     }
 
     /// The number of the file at this path, which is made, and has no octets then.
@@ -203,18 +213,14 @@ impl Content {
         Ok(())
     }
 
-    /// The paths of its files, in the order in which these were made, a line each.
-    ///
-    /// Errors: memory ran out.
-    pub(crate) fn paths(&self) -> io::Result<String> {
-        let mut text = String::new(self.alloc);
-        for file in &self.files {
-            if let Some(path) = &file.path {
-                text.push_str(path.as_str())?;
-                text.push('\n')?;
-            }
-        }
-        Ok(text)
+    /// Whether its files are at the paths of these, in the order in which they were made, the
+    /// first ones before the others.
+    pub(crate) fn has_files(&self, first: Files, others: Files) -> bool {
+        let paths = self.files.iter().filter_map(|file| file.path.as_ref());
+        let wanted = first.iter().chain(others.iter());
+        paths
+            .map(|path| path.as_str())
+            .eq(wanted.map(|(path, _)| *path))
     }
 
     /// What was written to standard output.

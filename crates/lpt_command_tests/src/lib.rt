@@ -1,16 +1,26 @@
-//! Tests of the commands of packets and messages over a machine in memory (`machine.rt`): what each
-//! reads, which file gets which octets, what a fault leaves, and what standard error is told.
+//! Tests of the program's commands over a machine in memory (`machine.rt`): what each reads, which
+//! file gets which octets, what a fault leaves, and what is printed.
+//!
+//! A case (`cases.rt`) is a row in a static: the words of a command, what the machine has, and what
+//! the command leaves there. The words are read and done as the program does that (`commands.rt`),
+//! so a case costs nothing but its row.
 #![tactic(auto)]
 
 #[cfg(test)]
-mod content;
+mod cases;
 #[cfg(test)]
-mod ending;
+mod commands;
+#[cfg(test)]
+mod content;
 #[cfg(test)]
 mod machine;
 #[cfg(test)]
 mod messages;
 #[cfg(test)]
 mod packets;
+#[cfg(test)]
+mod requests;
+#[cfg(test)]
+mod simulator;
 #[cfg(test)]
 mod worked;

@@ -1,257 +1,246 @@
 //! The commands of messages over a machine in memory.
 
-use crate::content::Content;
-use crate::ending::{Ending, check, hold, holding, one_path};
-use crate::machine::{Desk, InMemory};
-use crate::worked::{DUMPED, FIRST, LACKING, PARTS, SECOND};
-use lpt_command_line::{
-    Direction, ExtractWords, GivenName, JoinWords, Mode, Span, SplitOneWords, SplitWords,
-};
-use lpt_io::{Config, Terminals, Voice, tell_end};
-use lpt_message_commands::{extract, join, join_each, split};
-use std::alloc::Global;
-use std::process::Abort;
-
-pub(crate) const CONFIG: Config = Config {
-    apid: 100,
-    source: 1,
-    part_size: 16,
-    timeout: 1,
-    receptions: 8,
-    outgoing: 8,
-    clock: 0,
-    mode: Mode::Any,
+use crate::cases::{Case, NOTHING, Printed, Trouble, do_cases};
+use crate::worked::{
+    BOTH, DUMPED, FIRST, LACKING, LAST_PART, LAYOUT, PARTS, SECOND, TAILORED, TAILORED_PARTS,
 };
 
-/// That of a command none of whose streams is a terminal.
-pub(crate) fn voice() -> Voice {
-    let terminals = Terminals {
-        input: false,
-        output: false,
-        errors: false,
-    };
-    Voice::new(terminals, false)
-}
-
-// What `join up` asks for of the file `packets`.
-fn join_words(rt: &impl Abort, alloc: Global, id: Option<u16>) -> JoinWords<'static> {
-    JoinWords {
-        direction: Direction::Up,
-        name: id.map(|id| GivenName { source: None, id }),
-        files: one_path(rt, alloc, "packets"),
-        any: false,
-        first: false,
-        each: None,
-        span: Span {
-            from: None,
-            to: None,
-        },
-    }
-}
-
-// What `join --each` into the folder `out` leaves of a machine that holds this.
-fn check_join_each(rt: &impl Abort, alloc: Global, content: Content, ending: &Ending) {
-    let desk = Desk::new(alloc, content);
-    let words = join_words(rt, alloc, None);
-    let status = join_into_out(&desk, &words);
-    drop(words);
-    check(rt, desk, status, ending);
-}
-
-// The status by which that ends.
-fn join_into_out(desk: &Desk, words: &JoinWords<'_>) -> u8 {
-    let machine = InMemory { desk, input: &[] };
-    let ended = join_each(&machine, voice(), &CONFIG, words, "out");
-    tell_end(&machine, ended) as u8
-}
-
-// What `join --id 7` leaves of a machine that holds this.
-fn check_join_seven(rt: &impl Abort, alloc: Global, content: Content, ending: &Ending) {
-    let desk = Desk::new(alloc, content);
-    let words = join_words(rt, alloc, Some(7));
-    let status = join_to_output(&desk, &words);
-    drop(words);
-    check(rt, desk, status, ending);
-}
-
-// The status by which that ends.
-fn join_to_output(desk: &Desk, words: &JoinWords<'_>) -> u8 {
-    let machine = InMemory { desk, input: &[] };
-    let ended = join(&machine, voice(), &CONFIG, words);
-    tell_end(&machine, ended) as u8
-}
-
-static EACH_IN_ITS_FILE: Ending = Ending {
-    status: 0,
-    paths: "packets\nout/up-1-7.0\nout/up-1-8.0\nout/up-1-7.1\n",
-    files: &[
-        ("out/up-1-7.0", FIRST),
-        ("out/up-1-8.0", SECOND),
-        ("out/up-1-7.1", FIRST),
-    ],
-    output: &[],
-    errors: "",
-};
+static JOIN_EACH: [Case; 5] = [
+    Case {
+        words: "join up --each out --part-size 16 packets",
+        files: &[("packets", PARTS)],
+        made: &[
+            ("out/up-1-7.0", FIRST),
+            ("out/up-1-8.0", SECOND),
+            ("out/up-1-7.1", FIRST),
+        ],
+        ..NOTHING
+    },
+    Case {
+        words: "join up --each out --part-size 16 packets",
+        files: &[("packets", LACKING)],
+        status: 1,
+        made: &[("out/up-1-7.0", FIRST)],
+        errors: "lpt: up 8: from octet 61 on, missing parts: 8:2-\n",
+        ..NOTHING
+    },
+    // There is room for the first message and three octets of the second.
+    Case {
+        words: "join up --each out --part-size 16 packets",
+        files: &[("packets", PARTS)],
+        trouble: Trouble::Room(30),
+        status: 3,
+        made: &[("out/up-1-7.0", FIRST)],
+        errors: "Write\nlpt: out/up-1-8.0: no storage space\n",
+        ..NOTHING
+    },
+    Case {
+        words: "join up --each out --part-size 16 packets",
+        files: &[("packets", PARTS), ("out/up-1-8.0", &[9])],
+        status: 3,
+        made: &[("out/up-1-7.0", FIRST)],
+        errors: "Write\nlpt: out/up-1-8.0 is there already\n",
+        ..NOTHING
+    },
+    // The first message is whole at octet 94, the second at 122.
+    Case {
+        words: "join up --each out --part-size 16 packets",
+        files: &[("packets", PARTS)],
+        trouble: Trouble::Unreadable(100),
+        status: 3,
+        made: &[("out/up-1-7.0", FIRST)],
+        errors: "Read\nlpt: packets: other error\n",
+        ..NOTHING
+    },
+];
 
 #[test]
 fn each_message_is_in_its_file(rt: HostRuntime) {
-    let content = holding(&rt, rt.alloc(), "packets", PARTS);
-    check_join_each(&rt, rt.alloc(), content, &EACH_IN_ITS_FILE);
+    do_cases(&rt, &rt, rt.alloc(), &JOIN_EACH);
 }
 
-static MISSING: Ending = Ending {
-    status: 1,
-    paths: "packets\nout/up-1-7.0\n",
-    files: &[("out/up-1-7.0", FIRST)],
-    output: &[],
-    errors: "lpt: up 8: from octet 61 on, missing parts: 8:2-\n",
-};
+static JOIN: [Case; 4] = [
+    Case {
+        words: "join up --id 7 --part-size 16 packets",
+        files: &[("packets", LACKING)],
+        output: Printed::Whole(FIRST),
+        ..NOTHING
+    },
+    Case {
+        words: "join up --id 8 --part-size 16 packets",
+        files: &[("packets", LACKING)],
+        status: 1,
+        errors: "lpt: up 8: missing parts: 2-\n\
+            lpt: up: 2 parts of other messages were skipped, the first of 7\n",
+        ..NOTHING
+    },
+    // There is room for the first ten octets.
+    Case {
+        words: "join up --id 7 --part-size 16 packets",
+        files: &[("packets", LACKING)],
+        trouble: Trouble::Room(10),
+        status: 3,
+        output: Printed::Whole(&[0x18, 0x64, 0xc0, 0x05, 0x00, 0x14, 0x20, 0x06, 0x02, 0x00]),
+        errors: "Write\nlpt: standard output: no storage space\n",
+        ..NOTHING
+    },
+    // All files are opened before one is read.
+    Case {
+        words: "join up --part-size 16 packets others",
+        files: &[("packets", LACKING)],
+        status: 3,
+        errors: "Read\nlpt: others: entity not found\n",
+        ..NOTHING
+    },
+];
 
 #[test]
-fn what_is_missing_is_told(rt: HostRuntime) {
-    let content = holding(&rt, rt.alloc(), "packets", LACKING);
-    check_join_each(&rt, rt.alloc(), content, &MISSING);
+fn a_message_is_joined(rt: HostRuntime) {
+    do_cases(&rt, &rt, rt.alloc(), &JOIN);
 }
 
-static FULL: Ending = Ending {
-    status: 3,
-    paths: "packets\nout/up-1-7.0\n",
-    files: &[("out/up-1-7.0", FIRST)],
-    output: &[],
-    errors: "Write\nlpt: out/up-1-8.0: no storage space\n",
-};
-
-// There is room for the first message and three octets of the second.
-#[test]
-fn a_full_disk_leaves_whole_files(rt: HostRuntime) {
-    let mut content = holding(&rt, rt.alloc(), "packets", PARTS);
-    content.leave_room(30);
-    check_join_each(&rt, rt.alloc(), content, &FULL);
-}
-
-static THERE_ALREADY: Ending = Ending {
-    status: 3,
-    paths: "packets\nout/up-1-8.0\nout/up-1-7.0\n",
-    files: &[("out/up-1-8.0", &[9])],
-    output: &[],
-    errors: "Write\nlpt: out/up-1-8.0 is there already\n",
-};
-
-#[test]
-fn a_file_that_is_there_stays(rt: HostRuntime) {
-    let mut content = holding(&rt, rt.alloc(), "packets", PARTS);
-    hold(&rt, &mut content, "out/up-1-8.0", &[9]);
-    check_join_each(&rt, rt.alloc(), content, &THERE_ALREADY);
-}
-
-static UNREADABLE: Ending = Ending {
-    status: 3,
-    paths: "packets\nout/up-1-7.0\n",
-    files: &[("out/up-1-7.0", FIRST)],
-    output: &[],
-    errors: "Read\nlpt: packets: other error\n",
-};
-
-// The first message is whole at octet 94, the second at 122.
-#[test]
-fn a_read_that_fails_leaves_what_was_whole(rt: HostRuntime) {
-    let mut content = holding(&rt, rt.alloc(), "packets", PARTS);
-    content.break_reads(100);
-    check_join_each(&rt, rt.alloc(), content, &UNREADABLE);
-}
-
-static OUTPUT: Ending = Ending {
-    status: 0,
-    paths: "packets\n",
-    files: &[],
-    output: FIRST,
-    errors: "",
-};
-
-// There is room for the first ten octets.
-static FULL_OUTPUT: Ending = Ending {
-    status: 3,
-    paths: "packets\n",
-    files: &[],
-    output: &[0x18, 0x64, 0xc0, 0x05, 0x00, 0x14, 0x20, 0x06, 0x02, 0x00],
-    errors: "Write\nlpt: standard output: no storage space\n",
-};
+static JOIN_LAYOUT: [Case; 5] = [
+    Case {
+        words: "join up --layout mission.toml packets",
+        files: &[("mission.toml", LAYOUT), ("packets", TAILORED_PARTS)],
+        output: Printed::Whole(TAILORED),
+        ..NOTHING
+    },
+    Case {
+        words: "join up --layout mission.toml --each out packets",
+        files: &[("mission.toml", LAYOUT), ("packets", TAILORED_PARTS)],
+        made: &[("out/up-1-70000.0", TAILORED)],
+        ..NOTHING
+    },
+    Case {
+        words: "join up --layout mission.toml --to 34 packets",
+        files: &[("mission.toml", LAYOUT), ("packets", TAILORED_PARTS)],
+        status: 1,
+        errors: "lpt: up 70000: missing parts: 2-\n",
+        ..NOTHING
+    },
+    Case {
+        words: "join up --layout mission.toml packets",
+        files: &[
+            ("mission.toml", b"[telecommands]\ntime = 4\n"),
+            ("packets", TAILORED_PARTS),
+        ],
+        status: 2,
+        errors: "layout refused\nlpt: mission.toml:2: telecommands: time: no such key\n",
+        ..NOTHING
+    },
+    Case {
+        words: "join up --layout mission.toml packets",
+        files: &[("packets", TAILORED_PARTS)],
+        status: 3,
+        errors: "Read\nlpt: mission.toml: entity not found\n",
+        ..NOTHING
+    },
+];
 
 #[test]
-fn a_message_goes_to_standard_output(rt: HostRuntime) {
-    let content = holding(&rt, rt.alloc(), "packets", LACKING);
-    check_join_seven(&rt, rt.alloc(), content, &OUTPUT);
-    let mut full = holding(&rt, rt.alloc(), "packets", LACKING);
-    full.leave_room(10);
-    check_join_seven(&rt, rt.alloc(), full, &FULL_OUTPUT);
+fn a_mission_s_message_is_joined(rt: HostRuntime) {
+    do_cases(&rt, &rt, rt.alloc(), &JOIN_LAYOUT);
 }
 
-// The parts of the first message fill the first 61 octets.
+static SPLIT: [Case; 3] = [
+    Case {
+        words: "split up 8 message --part-size 16 --parts 2 --count 3",
+        files: &[("message", SECOND)],
+        output: Printed::Whole(LAST_PART),
+        ..NOTHING
+    },
+    Case {
+        words: "split up 8 message --part-size 32",
+        files: &[("message", SECOND)],
+        status: 1,
+        errors: "lpt: a message of 27 octets fits in a part of 32: --whole writes it as it is\n",
+        ..NOTHING
+    },
+    Case {
+        words: "split up 8 message --part-size 16 --parts 3",
+        files: &[("message", SECOND)],
+        status: 2,
+        errors: "lpt: --parts 3: not a list of parts from 1 to 2\n",
+        ..NOTHING
+    },
+];
+
 #[test]
 fn a_message_is_split(rt: HostRuntime) {
-    let content = holding(&rt, rt.alloc(), "message", FIRST);
-    let desk = Desk::new(rt.alloc(), content);
-    let status = split_message(&desk);
-    let ending = Ending {
-        status: 0,
-        paths: "message\n",
-        files: &[],
-        output: LACKING.get(..61).unwrap_or(&[]),
-        errors: "",
-    };
-    check(&rt, desk, status, &ending);
+    do_cases(&rt, &rt, rt.alloc(), &SPLIT);
 }
 
-// The status by which the file `message` is split.
-fn split_message(desk: &Desk) -> u8 {
-    let machine = InMemory { desk, input: &[] };
-    let words = SplitOneWords {
-        split: SplitWords {
-            layout: None,
-            direction: Direction::Up,
-            name: "7",
-            file: "message",
-            first: 0,
-            whole: false,
-            pcap: false,
-        },
-        parts: "1-",
-    };
-    let ended = split(&machine, &CONFIG, &words);
-    tell_end(&machine, ended) as u8
-}
-
-static EXTRACTED: Ending = Ending {
-    status: 0,
-    paths: "",
-    files: &[],
-    output: &[0x11, 0x22, 0x33, 0x44],
-    errors: "lpt: memory 1, address 0: 4 octets\n",
-};
+static SPLIT_EACH: [Case; 5] = [
+    Case {
+        words: "split up 7 - --each --part-size 16 --parts 7:1- --parts 8:1",
+        input: BOTH,
+        output: Printed::Whole(LACKING),
+        ..NOTHING
+    },
+    Case {
+        words: "split up 7 packets --each --part-size 16 --parts 8:2 --count 3",
+        files: &[("packets", BOTH)],
+        output: Printed::Whole(LAST_PART),
+        ..NOTHING
+    },
+    Case {
+        words: "split up 7 packets --each --part-size 16 --parts 9:2",
+        files: &[("packets", BOTH)],
+        status: 2,
+        errors: "lpt: --parts 9:2: no packet has this identifier\n",
+        ..NOTHING
+    },
+    // A report is no telecommand.
+    Case {
+        words: "split up 7 packets --each --part-size 16",
+        files: &[("packets", DUMPED)],
+        status: 1,
+        errors: "lpt: octet 0: this packet is damaged, or no telecommand\n",
+        ..NOTHING
+    },
+    Case {
+        words: "split up 7 packets --each --part-size 16",
+        files: &[("packets", BOTH)],
+        trouble: Trouble::Unreadable(30),
+        status: 3,
+        errors: "Read\nlpt: packets: other error\n",
+        ..NOTHING
+    },
+];
 
 #[test]
-fn a_dump_is_extracted_from_standard_input(rt: HostRuntime) {
-    let desk = Desk::new(rt.alloc(), Content::new(rt.alloc()));
-    let words = ExtractWords {
-        files: one_path(&rt, rt.alloc(), "-"),
-        at: Some(1),
-        from: None,
-        fill: None,
-        whole: false,
-        join: false,
-        layout: None,
-    };
-    let status = extract_dump(&desk, &words);
-    drop(words);
-    check(&rt, desk, status, &EXTRACTED);
+fn each_packet_is_split(rt: HostRuntime) {
+    do_cases(&rt, &rt, rt.alloc(), &SPLIT_EACH);
 }
 
-// The status by which that is extracted from a dump's report.
-fn extract_dump(desk: &Desk, words: &ExtractWords<'_>) -> u8 {
-    let machine = InMemory {
-        desk,
+static EXTRACT: [Case; 3] = [
+    Case {
+        words: "extract --at 1 -",
         input: DUMPED,
-    };
-    let ended = extract(&machine, voice(), &CONFIG, words);
-    tell_end(&machine, ended) as u8
+        output: Printed::Whole(&[0x11, 0x22, 0x33, 0x44]),
+        errors: "lpt: memory 1, address 0: 4 octets\n",
+        ..NOTHING
+    },
+    Case {
+        words: "extract --at 2 reports",
+        files: &[("reports", DUMPED)],
+        status: 1,
+        errors: "lpt: memory 2: no whole report gave octets for address 0 or later ones\n\
+            lpt: dump reports of another memory: 1, the first of 1\n",
+        ..NOTHING
+    },
+    Case {
+        words: "extract --at 1 reports",
+        files: &[("reports", DUMPED)],
+        trouble: Trouble::Unreadable(32),
+        status: 3,
+        errors: "Read\nlpt: reports: other error\n",
+        ..NOTHING
+    },
+];
+
+#[test]
+fn the_octets_of_a_dump_are_extracted(rt: HostRuntime) {
+    do_cases(&rt, &rt, rt.alloc(), &EXTRACT);
 }
