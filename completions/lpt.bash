@@ -26,7 +26,7 @@ _lpt() {
     split:*) options+=' --parts --count --each --whole --pcap --layout' ;;
     join:*) options+=' --id --first --any --each --from --to --layout --quiet' ;;
     extract:*) options+=' --at --from --fill --whole --join --layout --quiet' ;;
-    link:*) options='--lose --repeat --damage --delay --seed --quiet --help --version' ;;
+    link:*) options='--lose --repeat --damage --delay --seed --layout --quiet --help --version' ;;
     verify:*) options='--json --open --layout --quiet --help --version' ;;
     spacecraft:*) options+=' --mode --memory --save --tick-every --tick --reuse --resync --log --state' ;;
     compare:*) options+=' --layout --quiet' ;;
@@ -38,8 +38,8 @@ _lpt() {
         options+=' --passes --count --wait --tries --job --chart --json --quiet'
         options+=' --memory --save --state --lose --repeat --damage --delay --seed'
         ;;
-    request:load) options+=' --area --each --ack --count' ;;
-    request:dump | request:check) options+=' --each --ack --count' ;;
+    request:load) options+=' --area --each --ack --count --layout' ;;
+    request:dump | request:check) options+=' --each --ack --count --layout' ;;
     esac
     case $command:$request in
     ground:load | pass:load) options+=' --area --large --name --names --ack --verify' ;;

@@ -79,8 +79,10 @@ complete -c lpt -n 'not __lpt_at help; and not __lpt_at ground help; and not __l
 for command in run threads shell chart decode list split join extract spacecraft compare 'request load' 'request dump' 'request check'
     complete -c lpt -n "__lpt_at $command" -l config -r -F -d 'A TOML file with the configuration'
     complete -c lpt -n "__lpt_at $command" -l apid -x -d 'The APID of all packets, 0 to 2046'
-    complete -c lpt -n "__lpt_at $command" -l source -x -d 'The source of an ID that is written without one, 0 to 65535'
     complete -c lpt -n "__lpt_at $command" -l part-size -x -d 'The size of a part in octets, 4 to 1024'
+end
+for command in run threads shell chart decode list split join extract spacecraft compare
+    complete -c lpt -n "__lpt_at $command" -l source -x -d 'The source of an ID that is written without one, 0 to 65535'
 end
 for command in run threads shell chart spacecraft
     complete -c lpt -n "__lpt_at $command" -l mode -x -a 'any strict' -d 'Take parts in any order, or strictly in the order of their numbers'
@@ -93,7 +95,7 @@ complete -c lpt -n '__lpt_at chart' -l layout -r -F -d "A TOML file with the mis
 complete -c lpt -n '__lpt_at list; or __lpt_at verify' -l json -d 'Print each line as a JSON object'
 complete -c lpt -n '__lpt_at verify' -l open -d 'Write the packets of requests without a final report, in place of the list'
 complete -c lpt -n '__lpt_at decode' -l more -d 'Also print the areas of a request or report, and which segment a packet is'
-complete -c lpt -n '__lpt_at decode; or __lpt_at list; or __lpt_at split; or __lpt_at join; or __lpt_at extract; or __lpt_at verify; or __lpt_at compare' -l layout -r -F -d "A TOML file with the mission's layouts of headers and parts"
+complete -c lpt -n '__lpt_at decode; or __lpt_at list; or __lpt_at split; or __lpt_at join; or __lpt_at extract; or __lpt_at link; or __lpt_at verify; or __lpt_at compare; or __lpt_at request load; or __lpt_at request dump; or __lpt_at request check' -l layout -r -F -d "A TOML file with the mission's layouts of headers and parts"
 complete -c lpt -n '__lpt_at list' -l strict -d 'Stop at damage, or octets that are no packet'
 for command in list join
     complete -c lpt -n "__lpt_at $command" -l from -x -d 'Read from this place on, the number of an octet as list prints it'
@@ -104,7 +106,7 @@ complete -c lpt -n '__lpt_at split' -l each -d 'Split each packet of the file; t
 complete -c lpt -n '__lpt_at split' -l whole -d 'Write a message that fits in one part as it is, unsplit'
 complete -c lpt -n '__lpt_at split' -l pcap -d 'Write the packets as a pcap capture; not with --each'
 complete -c lpt -n '__lpt_at join' -l id -x -d "The message's ID or SOURCE/ID; needed if parts of several messages came"
-complete -c lpt -n '__lpt_at join' -l first -d 'Write the first message that is whole, whatever comes after it'
+complete -c lpt -n '__lpt_at join' -l first -d 'Write the first message under its name, even if others come after it'
 complete -c lpt -n '__lpt_at join' -l any -d 'Write the joined message even if it is no packet'
 complete -c lpt -n '__lpt_at join' -l each -x -a '(__fish_complete_directories)' -d 'Write each message to a file of its own in this folder; not with --id or --first'
 complete -c lpt -n '__lpt_at extract' -l at -x -d 'Write an image of this memory, each area at its address'
@@ -122,7 +124,8 @@ complete -c lpt -n '__lpt_at link; or __lpt_in_pass' -l lose -x -d "The share of
 complete -c lpt -n '__lpt_at link; or __lpt_in_pass' -l repeat -x -d 'The share of packets that are written twice'
 complete -c lpt -n '__lpt_at link; or __lpt_in_pass' -l damage -x -d 'The share of packets in which bits change'
 complete -c lpt -n '__lpt_at link; or __lpt_in_pass' -l delay -x -d 'Delay packets, each by at most N others, 0 to 1000'
-complete -c lpt -n '__lpt_at link; or __lpt_in_pass' -l seed -x -d 'The random seed; the same seed gives the same run'
+complete -c lpt -n '__lpt_at link' -l seed -x -d 'The random seed; the same seed gives the same run'
+complete -c lpt -n '__lpt_in_pass' -l seed -x -d 'The random seed; what gets lost also depends on how fast the machine is'
 complete -c lpt -n '__lpt_at spacecraft; or __lpt_in_pass' -l memory -x -d 'The ID of a memory, and the file of its first content, 1 to 1048576 octets'
 complete -c lpt -n '__lpt_at spacecraft; or __lpt_in_pass' -l save -d 'Write a memory back to its file after each load, and all of them at the end'
 complete -c lpt -n '__lpt_at spacecraft' -l tick-every -x -d 'Move the clock on by a tick after every N packets'
@@ -132,6 +135,7 @@ complete -c lpt -n '__lpt_at spacecraft' -l resync -d 'Go on after octets that a
 complete -c lpt -n '__lpt_at spacecraft' -l log -d 'Report on standard error what becomes of each packet and request'
 complete -c lpt -n '__lpt_at spacecraft; or __lpt_in_pass' -l state -r -F -d 'Keep the state and the memories in this file, and go on from it next time'
 for command in 'request load' 'request dump' 'request check'
+    complete -c lpt -n "__lpt_at $command" -l source -x -d 'The source ID of the telecommands, 0 to 65535'
     complete -c lpt -n "__lpt_at $command" -l each -x -d 'At most so many octets in a request'
     complete -c lpt -n "__lpt_at $command" -l ack -x -d 'Acknowledgement flags, 0 to 15: 1 acceptance, 2 start, 8 completion, or a sum'
 end

@@ -73,7 +73,7 @@ enum LptFault {
     LPT_E_LENGTH = 3,       /* they aren't as many as the header says */
     LPT_E_SEGMENTED = 4,    /* the sequence flags aren't 11 */
     LPT_E_NO_SECONDARY = 5, /* the secondary header flag is 0 */
-    LPT_E_CHECKSUM = 6,     /* the last two aren't the checksum of those before */
+    LPT_E_CHECKSUM = 6,     /* fewer than 8, or the last two aren't the checksum of those before */
 
     /* A packet that isn't a message of the kind that is read; tested in the order 12, 13, 11. */
     LPT_E_PUS_VERSION = 11,  /* the PUS version isn't 2 (for a reader: the layout's) */
@@ -94,8 +94,8 @@ enum LptFault {
     LPT_E_MEMORIES = 25,
 
     /* A request to a memory: 27, the load's packet would have more than 65,542 octets; 28, it has
-       no area, more than 255, or one without octets. A job: 28, it has no place, or one without
-       octets or with some behind the last address. */
+       no area, more than 255, or one without octets. A job: 28, it has no place, one without
+       octets or with some behind the last address, or, if it loads, two that share an address. */
     LPT_E_LONG_LOAD = 27,
     LPT_E_BAD_AREA = 28,
 
@@ -135,11 +135,13 @@ enum LptFault {
     LPT_E_IDLE = 101,
     /* A number is out of the range that the call's comment gives. */
     LPT_E_RANGE = 102,
-    /* The buffer is too short: it is as it was, and `needed` says how many octets it takes. */
+    /* The buffer is too short: it is as it was, and `needed` says how many octets it takes (of
+       lpt_reader_lay, `laid`). */
     LPT_E_ROOM = 103,
     /* The result depends on octets to come: more of the stream is needed. */
     LPT_E_MORE = 104,
-    /* The body is no such report. */
+    /* The body is no such report (of lpt_reader_area: isn't exactly the areas that it
+       announces). */
     LPT_E_NO_REPORT = 105,
     /* Of an end, a pass or a reader: nothing is left of it, as after a longjmp out of a memory
        function; in Python: it was closed. */
@@ -325,8 +327,9 @@ enum LptPartKind {
 /* The piece at the front of a stream. WHOLE: a packet. In step (see lpt_find_piece) an idle packet
    is WHOLE too, and so is a packet with a right checksum that has no secondary header or is a
    segment; for these lpt_read_packet returns LPT_E_IDLE, LPT_E_NO_SECONDARY or LPT_E_SEGMENTED.
-   DAMAGED, only in step: octets that are no packet, as many as their header says, with a packet or
-   the end of the stream after them. STRAY: an octet with which no such piece begins. */
+   DAMAGED, only in step: octets that are no packet, as many as their header says, with the end of
+   the stream, or a packet that is WHOLE out of step, after them. STRAY: an octet with which no such
+   piece begins. */
 enum LptPieceKind { LPT_PIECE_WHOLE = 1, LPT_PIECE_DAMAGED = 2, LPT_PIECE_STRAY = 3 };
 
 /* Why a reception was aborted: it expired or was given up; in strict mode a part came that is
@@ -405,7 +408,8 @@ uint16_t lpt_crc16_more(uint16_t crc, const uint8_t *octets, size_t octets_len);
 /*
  * Returns the length of the packet at the front of a stream, from its first six octets. LPT_DONE
  * for a packet, LPT_E_IDLE for an idle one, which may be skipped; for both *length is written, 7 to
- * 65,542. LPT_E_MORE if there are too few octets yet, LPT_E_VERSION if no packet begins with these.
+ * 65,542. LPT_E_VERSION if no packet begins with these, otherwise LPT_E_MORE if there are fewer
+ * than six.
  */
 LPT_MUST_USE
 uint32_t lpt_packet_length(const uint8_t *octets, size_t octets_len, size_t *length);
@@ -416,8 +420,8 @@ uint32_t lpt_packet_length(const uint8_t *octets, size_t octets_len, size_t *len
  * octet; `is_end` is 1 if nothing comes after them, and 0 if that isn't known. Any
  * number but 0 is taken as 1.
  *
- * LPT_DONE, and *kind (LPT_PIECE_WHOLE, LPT_PIECE_DAMAGED or LPT_PIECE_STRAY) and *size, its
- * octets, at least one, are written: later octets won't change them. LPT_E_MORE if there
+ * LPT_DONE, and the piece's *kind (LPT_PIECE_WHOLE, LPT_PIECE_DAMAGED or LPT_PIECE_STRAY) and
+ * *size (in octets, at least 1) are written: later octets won't change them. LPT_E_MORE if there
  * are no octets, or the piece depends on octets to come: never with LPT_LOOKAHEAD octets or more,
  * nor with `is_end` and at least one.
  */

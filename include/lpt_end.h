@@ -8,7 +8,7 @@
  * to belongs to the library. Each call returns LPT_DONE, or the number of the first thing that is
  * wrong, in the order of its comment. If it isn't LPT_DONE, the end is as it was, and the call has
  * written nothing through a pointer but what its comment says. LPT_E_ALLOCATION (out of memory)
- * comes last. docs/FORMATS.md lists the faults, and docs/C.md explains what the caller promises:
+ * comes last. include/lpt.h lists the faults, and docs/C.md explains what the caller promises:
  *
  *   - what include/lpt.h says about lengths, pointers and overlaps;
  *   - the address of an end was returned by a call, and lpt_end_free hasn't freed it;
@@ -16,9 +16,9 @@
  *     Another thread may use an end if a lock, or the start or end of a thread, comes in between.
  *     Calls on different ends may run at once only if the three memory functions may;
  *   - each part or plain request that is handed to lpt_end_packet was made by the other end (or, if
- *     ground has no end on this link, by a pass of lpt_ground.h), and each part was made after this
- *     end last freed its name: nobody forges packets, no damage passes the checksum, and no octets
- *     within a packet are taken for a packet on the link;
+ *     ground has no end on this link, by a pass of lpt_ground.h or of `lpt ground`), and each part
+ *     was made after this end last freed its name: nobody forges such packets, no damage passes
+ *     the checksum, and no octets within a packet are taken for a packet on the link;
  *   - the rules at lpt_end_new, lpt_end_packet and lpt_end_retire, for the two ends of a link;
  *   - a program that has the memories itself reads them as lpt_end_access says, before
  *     lpt_end_execute_given. It writes them before that call, or after it and before it executes
@@ -53,7 +53,7 @@ typedef struct LptEnd LptEnd;
 
 /*
  * What is fixed about an end. Both ends of a link have the same APID, part size and mode, because
- * packets are made and joined by them. The other values are an end's own. An end that is restored
+ * they make and join packets by these. The other values are an end's own. An end that is restored
  * from a state may have another timeout and other limits than before; if its APID, part size or
  * mode is another, lpt_end_resume returns LPT_E_STATE_CONFIG.
  */
@@ -111,9 +111,9 @@ enum LptOutcomeKind {
     LPT_OUTCOME_REPORT_NOTED = 5,   /* telemetry that is no part: first is its service type, second
                                        its message subtype */
     LPT_OUTCOME_ABORT_NOTED = 6,    /* the report of an abortion: name; first is the LptReason */
-    LPT_OUTCOME_BROKEN = 7,         /* a part that aborted its reception or, in strict mode, came
-                                       first and isn't part 1, which closes the name as well: name;
-                                       first is the LptReason */
+    LPT_OUTCOME_BROKEN = 7,         /* a part that aborted its reception, or in strict mode one
+                                       that came first and isn't part 1 (both close the name):
+                                       name; first is the LptReason */
     LPT_OUTCOME_IGNORED = 8         /* the packet changed nothing, except that the message that was
                                        released last can't be copied any more: first is the
                                        LptWhy */
@@ -589,10 +589,10 @@ uint32_t lpt_end_restart(LptEnd *end);
 
 /*
  * Copies the state of the end to the front of a buffer, and leaves the rest of the buffer as it
- * was. The state is the names that are closed, those of messages that are open for sending, the
- * clock, and how often the end was restarted. The names of open receptions aren't in it.
- * lpt_end_memory copies memories. docs/FORMATS.md has the octets, and docs/C.md says when to save
- * them. The call allocates nothing.
+ * was. The state has the end's side, APID, part size and mode, the names that are closed, those of
+ * messages that are open for sending, the clock, and how often the end was restarted. The names of
+ * open receptions aren't in it. lpt_end_memory copies memories. docs/FORMATS.md has the octets, and
+ * docs/C.md says when to save them. The call allocates nothing.
  * LPT_DONE; LPT_E_ROOM. At LPT_DONE and LPT_E_ROOM *needed is the state's length: 45, and 6 for
  * each run of these names: identifiers of one source and direction that follow one another. There
  * are at most as many runs as such names, and at most 32,768 of a source and direction.

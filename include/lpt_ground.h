@@ -1,15 +1,15 @@
 /*
- * Ground's end of a pass for large packet transfer (ECSS-E-ST-70-41C). A pass does a job of loads,
- * dumps or checks of a memory (service 6). Each request is one packet, and is sent again, in
- * rounds, until a report settles it, that is, says that it completed or failed.
+ * Ground's passes for raw memory management (ECSS-E-ST-70-41C, service 6). A pass does a job of
+ * loads, dumps or checks of a memory. Each request is one packet, and is sent again, in rounds,
+ * until a report settles it. The comment of lpt_ground_packet says which reports do.
  *
  * A program holds a pass by its address, an LptGround *. lpt_ground_new returns one, and
  * lpt_ground_free frees it. In between the program asks by lpt_ground_next what to do, and does
  * that:
  *
  *   - LPT_STEP_SEND: copy the packet by lpt_ground_outgoing, send it, and call lpt_ground_sent,
- *     with no other call of the pass in between. Then pass the packets that came to
- *     lpt_ground_packet, before you ask again;
+ *     with no other call of the pass in between. Then call lpt_ground_packet for each packet that
+ *     came, before you ask again;
  *   - LPT_STEP_LISTEN: wait for a packet, and pass it to lpt_ground_packet. If none comes for so
  *     long that none can be on its way any more, for example for a second, call lpt_ground_quiet:
  *     then a new round begins. If you call it too early, it costs packets, and counts as a wait for
@@ -67,12 +67,12 @@ typedef struct LptPlace {
  * Makes the pass of a job of these places. The octets of a load are in `content`, place after
  * place, and are copied; a dump and a check don't read `content`. Each place is cut into requests
  * of as many octets as LptJob says at part_size; the last one of a place has the rest. Requests are
- * numbered from 0 through all places. Places of a load that share addresses should have the same
- * octets there: otherwise nothing is proved of the memory.
+ * numbered from 0 through all places.
  * LPT_DONE, and *pass is its address; LPT_E_RANGE for a number of the job that is out of its range,
  * and for flags of a load without 8; LPT_E_BAD_AREA for no place, and for one without octets or
  * with some behind the last address; LPT_E_LONG_JOB for more than 16,384 requests; LPT_E_RANGE if
- * the content of a load isn't as long as its places together; LPT_E_ALLOCATION.
+ * the content of a load isn't as long as its places together; LPT_E_BAD_AREA if two places of a
+ * load share an address; LPT_E_ALLOCATION.
  */
 LPT_MUST_USE
 uint32_t lpt_ground_new(LptGround **pass, const LptJob *job, const LptPlace *places,
@@ -89,7 +89,7 @@ void lpt_ground_free(LptGround *pass);
 enum LptStep {
     LPT_STEP_SEND = 1,      /* a packet is to be sent */
     LPT_STEP_LISTEN = 2,    /* a packet is to be awaited */
-    LPT_STEP_COMPLETED = 3, /* each load was reported as carried out, each dump or check answered */
+    LPT_STEP_COMPLETED = 3, /* each request is settled, and none was reported as failed */
     LPT_STEP_FAILED = 4,    /* each request is settled, and some were reported as failed */
     LPT_STEP_GIVEN_UP = 5,  /* some requests are open, and as many waits in a row as `tries` says
                                settled nothing */
@@ -124,7 +124,8 @@ uint32_t lpt_ground_next(LptGround *pass, uint32_t *step);
  * Copies the packet that is to be sent next to the front of a buffer, and leaves the rest of the
  * buffer as it was. LPT_DONE; LPT_E_NOTHING if the next step isn't LPT_STEP_SEND; LPT_E_ROOM. At
  * LPT_DONE and LPT_E_ROOM *needed is the packet's length, at most part_size and 23. The packet
- * stays the next one until lpt_ground_sent, or until a packet settles its request.
+ * stays the next one until lpt_ground_sent, lpt_ground_quiet or lpt_ground_close, or until a packet
+ * settles its request.
  */
 LPT_MUST_USE
 uint32_t lpt_ground_outgoing(LptGround *pass, uint8_t *out, size_t out_len, size_t *needed);
@@ -138,10 +139,9 @@ uint32_t lpt_ground_sent(LptGround *pass);
 
 /*
  * Takes a packet that came. Telemetry of the job's APID to its source settles an open request if it
- * reports that the request failed (TM[1,2] or TM[1,4]); of a load, if it reports that it completed
- * (TM[1,7]) or, if the flags have 2, started (TM[1,3]); of a dump or a check, if it has the octets
- * or the checksum that were asked for. Any other packet is ignored; so are TM[1,6] and TM[1,8],
- * failures that this project's spacecraft doesn't report.
+ * reports that the request failed (TM[1,2], TM[1,4], TM[1,6] or TM[1,8]); of a load, if it reports
+ * that it completed (TM[1,7]) or, if the flags have 2, started (TM[1,3]); of a dump or a check, if
+ * it has the octets or the checksum that were asked for. Any other packet is ignored.
  * LPT_DONE; LPT_E_ALLOCATION.
  */
 LPT_MUST_USE
@@ -165,7 +165,8 @@ uint32_t lpt_ground_close(LptGround *pass);
 /* How many requests a pass has, and what became of them. */
 typedef struct LptProgress {
     size_t requests;  /* all of them */
-    size_t completed; /* loads reported as carried out, dumps and checks that were answered */
+    size_t completed; /* loads reported as completed (or, if the flags have 2, as started), dumps
+                         and checks that were answered */
     size_t failed;    /* requests reported as failed */
     size_t left;      /* open ones, which no report has settled */
 } LptProgress;
@@ -177,10 +178,15 @@ uint32_t lpt_ground_progress(LptGround *pass, LptProgress *progress);
 /* What is known of a request. */
 enum LptFateState { LPT_FATE_OPEN = 0, LPT_FATE_COMPLETED = 1, LPT_FATE_FAILED = 2 };
 
+/* Stands for a failure code that a pass can't read in the report. */
+enum LptCodeUnread { LPT_CODE_UNREAD = 65536 };
+
 /* What became of a request. */
 typedef struct LptFate {
     uint32_t state; /* an LptFateState */
-    uint32_t code;  /* the report's failure code, an LptFailure or another; 0 if it didn't fail */
+    uint32_t code;  /* the report's failure code, an LptFailure or another; LPT_CODE_UNREAD if the
+                       report has none of 16 bits, or is of progress (TM[1,6]); 0 if the request
+                       didn't fail */
 } LptFate;
 
 /* Returns what became of a request, by its number from 0. LPT_DONE, and *fate is written;
@@ -215,8 +221,10 @@ uint32_t lpt_ground_dumped(LptGround *pass, size_t number, uint8_t *out, size_t 
  * Returns whether the checksums that checks got are those of this content: the octets of the
  * places, one place behind the other, and nothing more. It returns LPT_DONE, and *agrees is 1 if
  * they are, otherwise 0, and also 0 while a check is open, or if one failed. A checksum has 16
- * bits, so about one differing area in 65,536 is taken for the same. For a job of loads or dumps
- * the result says nothing.
+ * bits, so about one differing area in 65,536 is taken for the same. And it is the CRC that packets
+ * have, which is linear: damage inside one loaded area that passed its packet's checksum always
+ * passes a check of that area. Only a dump compares octets. For a job of loads or dumps the result
+ * says nothing.
  */
 LPT_MUST_USE
 uint32_t lpt_ground_agrees(LptGround *pass, const uint8_t *content, size_t content_len,

@@ -10,14 +10,15 @@
  * then lpt_reader_next until the item is LPT_ITEM_END. The items don't depend on how the archive
  * was cut into pieces. When lpt_reader_next has returned LPT_E_MORE, a reader holds fewer than
  * LPT_LOOKAHEAD + n octets, if the last piece had n. Its buffer doubles when it grows, so a pool
- * needs 4 * (LPT_LOOKAHEAD + n); and more if the reader joins messages, because it keeps their
+ * needs 4 * LPT_LOOKAHEAD + 6 * n; and more if the reader joins messages, because it keeps their
  * parts (lpt_reader_new_join).
  *
  * Each call returns LPT_DONE, or the number of the first thing that is wrong, in the order of its
  * comment. If it isn't LPT_DONE, the call has written nothing through a pointer but what its
  * comment says, and the reader is as it was, except that after LPT_E_MORE there is no last item,
- * and that lpt_reader_message loses its parts if memory runs out (LPT_E_ALLOCATION). The caller
- * promises what include/lpt_end.h says about addresses, threads and memory.
+ * and that lpt_reader_message, if memory runs out (LPT_E_ALLOCATION), loses its parts and goes on
+ * behind the item. The caller promises what include/lpt_end.h says about addresses, threads and
+ * memory.
  */
 #ifndef LPT_READER_H
 #define LPT_READER_H
@@ -40,7 +41,8 @@ typedef struct LptReader LptReader;
  * white space alone means the profile's headers, with parts of any size. The reader finds packets
  * by their checksums if both tables of the layout have one, otherwise by their lengths alone.
  * LPT_DONE, and *reader is its address; without a text LPT_E_RANGE for another part size; with one
- * LPT_E_LAYOUT if it isn't UTF-8, or not what `lpt list --layout` takes; LPT_E_ALLOCATION.
+ * LPT_E_LAYOUT if it isn't UTF-8 or means no layout (`lpt list --layout` says why);
+ * LPT_E_ALLOCATION.
  */
 LPT_MUST_USE
 uint32_t lpt_reader_new(LptReader **reader, uint32_t part_size, const uint8_t *layout,
@@ -73,11 +75,12 @@ enum LptItemKind {
     LPT_ITEM_FAULTY = 3
 };
 
-/* LptItem's `part` is an LptPartKind, or this if the body should be a part's but doesn't fit the
-   part size. */
+/* LptItem's `part` is an LptPartKind, or this if the body should be a part's but can't be read as
+   one. */
 enum { LPT_PART_UNREAD = 4 };
 
-/* The next item of the archive. A field that its kind doesn't have is 0. */
+/* The next item of the archive. A field that its kind doesn't have is 0; an idle packet has only
+   place, stray and length. */
 typedef struct LptItem {
     uint64_t place;   /* how many octets of the archive are in front of it, at most 2^64 - 1 */
     uint64_t stray;   /* how many of these, right in front of it, are no packet */
@@ -108,7 +111,7 @@ typedef struct LptItem {
 /*
  * Returns the next item of the archive, and goes on behind it. LPT_DONE, and *item is written;
  * LPT_E_MORE if the item depends on octets that haven't been taken yet, and *item stays as it was.
- * At the end each call returns LPT_ITEM_END.
+ * At the end each call returns LPT_DONE, and the item's kind is LPT_ITEM_END.
  */
 LPT_MUST_USE
 uint32_t lpt_reader_next(LptReader *reader, LptItem *item);
@@ -240,8 +243,8 @@ uint32_t lpt_reader_areas(LptReader *reader, const uint8_t *octets, size_t octet
  * Returns one of the areas that a message names, by its number from 0. `lpt extract` takes those of
  * dump reports whose `fault` is 0 (lpt_reader_lay).
  * LPT_DONE, and *area is written; of octets that fail a test, what LptItem has as fault;
- * LPT_E_NOTHING if they are no such message; LPT_E_NO_REPORT if its body isn't areas with nothing
- * behind them; LPT_E_RANGE if it has no area of this number.
+ * LPT_E_NOTHING if they are no such message; LPT_E_NO_REPORT if its body isn't exactly the areas
+ * that it announces; LPT_E_RANGE if it has no area of this number.
  */
 LPT_MUST_USE
 uint32_t lpt_reader_area(LptReader *reader, const uint8_t *octets, size_t octets_len, size_t number,
@@ -258,8 +261,9 @@ typedef struct LptImage {
 } LptImage;
 
 /* What a message is for an image. OTHER: no dump report. PART: a part of a message of the APID,
-   which may be a dump report. APID: a dump report of another APID. UNREAD: a dump report whose body
-   isn't read. MEMORY: a dump report of another memory. AREAS: a dump report of this memory. */
+   which may be a dump report. APID: a dump report, or a part, of another APID. UNREAD: a dump
+   report whose body can't be read. MEMORY: a dump report of another memory. AREAS: a dump report of
+   this memory. */
 enum LptLaidKind {
     LPT_LAID_OTHER = 0,
     LPT_LAID_PART = 1,

@@ -6,6 +6,7 @@ figures.py --write    puts them into the documents
 tests/documents wants that each stands where it should, as it is counted here.
 """
 
+import ast
 import pathlib
 import re
 import sys
@@ -49,10 +50,20 @@ def specs():
     return [it.relative_to(TOP / "crates").with_suffix("") for it in TOP.glob("crates/*/specs/**/*.antt")]
 
 
+def changed_laws():
+    """Of each row of tests/statements that changes something: its crate and law."""
+    tree = ast.parse((TOP / "tests" / "statements").read_text(encoding="utf-8"))
+    assigned = [it for it in tree.body if isinstance(it, ast.Assign) and isinstance(it.targets[0], ast.Name)]
+    rows = next(it.value.elts for it in assigned if it.targets[0].id == "ROWS")
+    texts = [[it.value for it in row.elts[:3]] for row in rows]
+    return [(crate, law) for crate, law, change in texts if change != "as it is"]
+
+
 def figures():
     """All figures."""
     read = reading.below([reading.HEADLINE])
     edits = len(list(TOP.glob("crates/*/must-fail/*.edit")))
+    changed = changed_laws()
     resets = reading.below(["lpt_c_pair/specs/Resets", "lpt_c_pair/specs/Histories"])
     crates = len(list(TOP.glob("crates/*/src/lib.rt"))) + len(list(TOP.glob("crates/*/src/main.rt")))
     return [
@@ -60,6 +71,8 @@ def figures():
         Figure("docs/ASSURANCE.md", " of the ", " files in `specs/`", len(specs())),
         Figure("docs/ASSURANCE.md", " files in `specs/`, with ", " lines", sum(len(reading.lines(it)) for it in read)),
         Figure("docs/ASSURANCE.md", "lpt_c_pair/specs/Histories` lists the ", " files", len(resets)),
+        Figure("docs/ASSURANCE.md", "- **Changed laws.** ", " rows of `tests/statements`", len(changed)),
+        Figure("docs/ASSURANCE.md", "strengthen a claim of ", " laws: ", len(set(changed))),
         Figure("docs/CLAIMS.md", "3. The ", " wrong bodies in `must-fail/`", edits),
         Figure("docs/ARCHITECTURE.md", "The ", " crates stand in layers", crates),
     ]

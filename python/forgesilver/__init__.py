@@ -26,8 +26,8 @@ The modules:
 - faults: an exception for each fault
 
 Octets are any object with a buffer: `bytes`, `bytearray`, `memoryview`, an array or a mapped file.
-A reader returns views if it gets a `memoryview`, otherwise copies. Numbers out of their range raise
-`faults.Range`, and arguments of another type TypeError.
+`read_packet` and its like return views if they get a `memoryview`, otherwise copies. Numbers out of
+their range raise `faults.Range`, and arguments of another type TypeError.
 
 The package looks for the libraries in the folder that FORGESILVER_LIB names. If that isn't set, it
 looks beside its own files, where ./install puts them, and in `build` of the checkout. `liblpt` must

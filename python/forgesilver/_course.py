@@ -1,5 +1,5 @@
-"""What the parts of one name give, which may be used again: the rule of `lpt join --each`, in Python
-since what is kept of a name goes from worker to worker of Dask, which a reader of the library can't.
+"""What the parts of one name give, also if the name is used again: the rule of `lpt join --each`. It is
+in Python because what is kept of a name goes from worker to worker of Dask, and a library's reader can't.
 `tests/distributed` compares it with `join_each`. Not for the caller.
 
 Three sets of parts are kept of a name: all that came behind the last message; of these the new

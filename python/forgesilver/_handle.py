@@ -1,4 +1,4 @@
-"""What the objects share that have something of a library's behind an address. Not for the caller."""
+"""What ends, jobs and archives share: the address of something in a library. Not for the caller."""
 
 from __future__ import annotations
 

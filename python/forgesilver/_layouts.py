@@ -56,8 +56,8 @@ def headers_of(text: Optional[str], part_size: int) -> tuple[Headers, Headers]:
 
 
 def cut_by(text: str, has_checksum: bool) -> str:
-    """The same layout, but for the checksum, which packets of both types have, or none: by that a
-    stream is cut."""
+    """The same layout, in which packets of both types have a checksum, or none has: a stream is cut by
+    that."""
     values, lines = dict(_values_in(text)), []
     for table in ("telemetry", "telecommands"):
         lines += [f"[{table}]", f"checksum = {str(has_checksum).lower()}"]

@@ -85,7 +85,8 @@ def _time_of(it: Listed) -> dict[str, Any]:
 def _carried(it: Listed) -> dict[str, Any]:
     """The part that it carries, or what else its body says."""
     if it.is_unread:
-        return {"part": "unread"}
+        front = 4 if it.headers is None else it.headers.part_id + it.headers.part_number
+        return {"part": "unread", "part_octets": max(0, len(it.body) - front)}
     if it.part is not None:
         name = {"large_message_transaction_identifier": it.id, "part_sequence_number": it.number}
         return {"part": _PARTS[it.part], **name, "part_octets": len(it.part_octets)}

@@ -43,11 +43,12 @@ class Listed:
     - fault: the first test that it fails, if it is FAULTY: it is damaged, or it is a sound packet
       that isn't one of the layout (a segment, or one without a secondary header). Only with
       `PusVersion` and `ShortHeader` it has `packet` and `apid`; otherwise these are None and 0.
-      `to_dict` has the primary header of such a packet, and of each segment, also a damaged one
+      `to_dict` has the primary header of each packet with a right checksum, and of each segment,
+      also a damaged one
     - flags: a telecommand's acknowledgement flags, telemetry's time reference status
     - user: the source ID of a telecommand, the destination ID of telemetry, 0 if there is none
     - part: which part it carries, with `id`, `number` and `part_octets`
-    - is_unread: whether it should carry a part, but has none that fits the part size
+    - is_unread: whether it should carry a part, but has none that can be read
     - date_text, areas: its date, and the areas that it names, as in the rows of `to_dict`
     """
 
@@ -175,8 +176,8 @@ class Archive(Handle):
     ...     [(it.place, it.kind.name, it.number, it.stray) for it in archive]
     [(0, 'PACKET', 1, 0), (25, 'PACKET', 2, 0), (50, 'PACKET', 3, 0), (76, 'END', 0, 5)]
 
-    It holds no more of the archive than two packets and the octets of one read. Only the thread that
-    made it may use it, and it can't be copied or pickled.
+    It holds no more of the archive than two packets and the octets of one read; if it joins messages,
+    also their parts. Only the thread that made it may use it, and it can't be copied or pickled.
     """
 
     __slots__ = (
@@ -260,9 +261,9 @@ class Archive(Handle):
         [(7, 100)]
         []
 
-        At the end a `SkippedWarning` says which parts weren't read and, without checksums, how many
-        octets are left behind the first that is no packet. Raises `Range`, `Allocation`,
-        `faults.Empty`, and ValueError if something was read.
+        At the end a `SkippedWarning` says which parts of this APID weren't read and, without
+        checksums, how many octets at the archive's end are no packet; nothing warns of another APID's
+        parts. Raises `Range`, `Allocation`, `faults.Empty`, and ValueError if something was read.
         """
         direction, apid = Direction(direction), number(apid, 0xFFFF, "the APID")
         text = self._started(direction)
@@ -276,6 +277,7 @@ class Archive(Handle):
     def _joined(self, reader: Reader, direction: Direction, apid: int) -> Iterator[Message]:
         """The messages, while what isn't one is noted."""
         counts, stray, headers = Counts(), 0, self._headers[1 - direction]
+        self._done(_nothing)
         while not reader.is_over:
             self._feed(reader)
             for news in told_by(reader):

@@ -199,8 +199,8 @@ def _stream_of(files: Iterable[Union[str, os.PathLike[str]]]) -> _Stream:
 
 
 class _Run:
-    """The tasks of a run. Pieces are done in batches, in front of which the client has what is kept
-    of names, so that a lost worker costs no more than a batch."""
+    """The tasks of a run. Pieces are done in batches. Before each the client has what is kept of
+    names, so that a lost worker costs no more than this batch and the next one, which is being read."""
 
     def __init__(self, client: Client, stream: _Stream, piece: int, how: _How) -> None:
         self.client, self.stream, self.piece, self.how = client, stream, piece, how
@@ -289,7 +289,7 @@ def _cut(stream: _Stream, start: int, stop: int, how: _How) -> _Cut:
 
 
 def _mended(stream: _Stream, cut: _Cut, stop: int, state: _State, how: _How) -> _Mended:
-    """The same as the piece before it ends."""
+    """The piece, read from the end of the one before it."""
     rows: list[_Row] = []
     walk = _Walk(stream, state.place, state.in_step, stop)
     for place, octets in walk:
@@ -380,8 +380,8 @@ def _row_of(place: int, packet: Octets, how: _How) -> Iterator[_Row]:
 
 
 class _Walk:
-    """The packets of a stream from a place on, which begin before another; behind them, where the
-    next piece of the stream begins, and whether in step."""
+    """The packets of a stream that begin between two places; and then where the next piece of the
+    stream begins, and whether in step."""
 
     def __init__(self, stream: _Stream, place: int, in_step: bool, stop: int) -> None:
         self.stream, self.stop = stream, stop

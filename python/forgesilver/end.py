@@ -173,7 +173,7 @@ class End(Handle):
         to send. The clock is the state's; the timeout and the limits are this configuration's. Give
         the saved memories too; their sizes aren't compared.
 
-        Raises `Range`, `ConfigApid` to `ConfigOutgoing`, or `Memories`; of a state also
+        Raises `Range`, `ConfigApid` to `ConfigOutgoing`, `Memories` or `Allocation`; of a state also
         `StateShort` to `StateOrder`, or `NoNumber`.
         """
         super().__init__()

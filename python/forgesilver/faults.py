@@ -127,7 +127,8 @@ class LongLoad(Fault, ValueError):
 
 
 class BadArea(Fault, ValueError):
-    """A request of no area, of more than 255, or with an empty one."""
+    """A request of no area, of more than 255, or with an empty one; a job whose areas end behind the
+    last address, or, if it is a load, overlap."""
 
     number = 28
 

@@ -29,7 +29,7 @@ Call = Callable[..., int]
 class Passed:
     """A dump report that isn't read, or an area of one that isn't taken.
 
-    - place: how many octets stand in front of its packet, or of that of the last part
+    - place: how many octets stand in front of its packet, or of that with which it became whole
     - why: `unread`; or `checksum` if that is wrong, `end` if the area ends past the last address
     - start: the area's first address
     - length: how many octets the area has, or the report's body
@@ -70,7 +70,7 @@ class Image:
     Of `Archive.image` also:
 
     - passed: one entry for each that `passed_over` counts
-    - of_memories, of_apids: the reports of other memories, and of other APIDs
+    - of_memories, of_apids: the reports of other memories, and the reports and parts of other APIDs
     - parts: the parts of messages of the APID that weren't read, which may be of dump reports
     - damaged: how many packets are damaged
     - stray: how many octets with which no packet begins
@@ -94,7 +94,8 @@ class Image:
     def is_clean(self) -> bool:
         """Whether octets came, none among them is missing, the archive has no damaged packets and no
         octets between packets, no report or part was passed over, and no report in parts stayed
-        incomplete (`lost`). Reports of other memories and APIDs don't count."""
+        incomplete (`lost`). Reports of other memories and APIDs don't count. Of an image by `read_image`
+        this says nothing about damaged packets, octets between packets, or parts that aren't read."""
         passed = self.passed_over or self.parts.count or self.damaged or self.stray or self.lost
         return bool(self.octets) and not self.missing and not passed
 

@@ -20,6 +20,8 @@ _ground = _library.ground
 _KINDS = {Load: JobKind.LOAD, Dump: JobKind.DUMP, Check: JobKind.CHECK}
 # The least part size of each: the report of a dump or a check has to go in one packet.
 _LEAST = {JobKind.LOAD: 4, JobKind.DUMP: 7, JobKind.CHECK: 6}
+# The code of a failure whose report has none that is read.
+_UNREAD = 65536
 
 
 @dataclass(frozen=True)
@@ -34,7 +36,8 @@ class Progress:
 
 @dataclass(frozen=True)
 class Fate:
-    """What became of a request. `code` is why it failed, a `Failure` or another number; else None."""
+    """What became of a request. `code` is why it failed, a `Failure` or another number; None if it didn't
+    fail, or its report has no code of 16 bits or is of progress (TM[1,6])."""
 
     state: FateState
     code: Union[Failure, int, None] = None
@@ -65,7 +68,7 @@ class Job(Handle):
         count: int = 0, tries: int = 10, starts: bool = False,
     ) -> None:
         """Makes a job of a request, whose areas may have any length: they are cut into requests of
-        one packet each. If areas of a load overlap, they must have the same octets there.
+        one packet each. Areas of a load may not overlap.
 
         - source: the job's own, 0 to 65,535: reports go to it, and no job before had it
         - part_size: of the link, 4 to 1,024, of a dump 7 to 1,024, of a check 6 to 1,024
@@ -162,7 +165,8 @@ class Job(Handle):
                 return
             raise_fault(fault)
             state = FateState(told.state)
-            yield Fate(state, _failure_of(told.code) if state is FateState.FAILED else None)
+            is_read = state is FateState.FAILED and told.code != _UNREAD
+            yield Fate(state, _failure_of(told.code) if is_read else None)
             at += 1
 
     def reports(self) -> Iterator[bytes]:
@@ -193,7 +197,8 @@ class Job(Handle):
 
     def agrees(self, octets: Octets) -> bool:
         """Whether a check got the checksums of these octets, its areas' octets one after the other.
-        A checksum has 16 bits, so about one differing area in 65,536 is taken for the same."""
+        A checksum has 16 bits, so about one differing area in 65,536 is taken for the same. Damage
+        inside one loaded area that passed its packet's checksum is too: both are one linear CRC."""
         given, told = Given(octets), U32(0)
         self._done(_ground.lpt_ground_agrees, given.at, given.len, byref(told))
         return bool(told.value)

@@ -304,8 +304,8 @@ class _Window:
 def _items_in(
     packets: Packets, part_size: int, is_of_parts: bool
 ) -> Iterator[tuple[Any, _Window]]:
-    """What stands in a stream, each with the octets around it; or in each of packets that are given
-    one by one, if it is whole, or only in those of the service of parts."""
+    """The items of a stream, each with the octets around it. Of packets that are given one by one, the
+    whole ones; if `is_of_parts`, of these only those of the service of parts."""
     reader, item, window = lister(b"", part_size), _library.LptItem(), _Window()
     if not hasattr(packets, "read") and not has_octets(packets):
         yield from _items_of_each(packets, part_size, is_of_parts)  # type: ignore[arg-type]

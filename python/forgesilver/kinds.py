@@ -32,9 +32,9 @@ class PartKind(IntEnum):
 
 class PieceKind(IntEnum):
     """The first piece of a stream. WHOLE: a packet; in step (see `find_piece`) also an idle
-    packet, or one with a right checksum that has no secondary header or is a segment. DAMAGED:
-    octets that are no packet, as many as their header says, with a packet or the end after them.
-    STRAY: an octet with which no such piece begins."""
+    packet, or one with a right checksum that has no secondary header or is a segment. DAMAGED, only
+    in step: octets that are no packet, as many as their header says, with a packet or the end after
+    them. STRAY: an octet with which no such piece begins."""
 
     WHOLE = 1
     DAMAGED = 2
@@ -68,8 +68,8 @@ class MessageKind(IntEnum):
 
 class LaidKind(IntEnum):
     """What a message is for the image of a memory. OTHER: no dump report. PART: a part of a message
-    of the APID. APID: a dump report of another APID. UNREAD: a dump report whose body isn't read.
-    MEMORY: a dump report of another memory. AREAS: a dump report of this memory."""
+    of the APID. APID: a dump report, or a part, of another APID. UNREAD: a dump report whose body
+    isn't read. MEMORY: a dump report of another memory. AREAS: a dump report of this memory."""
 
     OTHER = 0
     PART = 1
@@ -81,8 +81,8 @@ class LaidKind(IntEnum):
 
 class Reason(IntEnum):
     """Why a reception was aborted. EXPIRED: no part came for as long as the timeout, or the
-    reception was given up. DISCONTINUITY: in strict mode a part came that isn't the next one.
-    CONFLICT: a part contradicts another."""
+    reception was given up. DISCONTINUITY: in strict mode a part came that is neither the
+    next nor one that was kept. CONFLICT: a part contradicts another."""
 
     EXPIRED = 1
     DISCONTINUITY = 2
@@ -194,10 +194,10 @@ class JobKind(IntEnum):
 
 class Step(IntEnum):
     """What a job does next. SEND: a packet is to be sent. LISTEN: a packet is to be awaited. From
-    COMPLETED on the job is at its end. COMPLETED: each load was reported as carried out, and each
-    dump or check answered. FAILED: each request is settled, and some were reported as failed.
-    GIVEN_UP: some are open, and as many waits in a row as `tries` says settled nothing. CUT_OFF:
-    some are open, and nothing more will come."""
+    COMPLETED on the job is at its end. COMPLETED: each request is settled, and none was reported as
+    failed. FAILED: each request is settled, and some were reported as failed. GIVEN_UP: some are
+    open, and as many waits in a row as `tries` says settled nothing. CUT_OFF: some are open, and
+    nothing more will come."""
 
     SEND = 1
     LISTEN = 2
@@ -214,7 +214,8 @@ class Step(IntEnum):
 
 class FateState(IntEnum):
     """What is known of a job's request. OPEN: no report has settled it. COMPLETED: a load was
-    reported as carried out, or a dump or check was answered. FAILED: it was reported as failed."""
+    reported as completed (with `starts`, at least as started), or a dump or check was answered.
+    FAILED: it was reported as failed."""
 
     OPEN = 0
     COMPLETED = 1

@@ -93,7 +93,7 @@ class Load(_Request):
 
 @dataclass(frozen=True)
 class _OfAreas(_Request):
-    """What the requests share that name areas alone."""
+    """What dumps and checks share."""
 
     memory: int
     areas: Sequence[Area]

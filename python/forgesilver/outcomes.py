@@ -12,8 +12,9 @@ from .reports import SERVICE, read_report
 if TYPE_CHECKING:
     from .archive import Listed
 
-# The message subtype of a report that a step of execution succeeded.
-_PROGRESS = 5
+# The message subtypes of a report that a step of execution succeeded, that one failed, and of all
+# failures: of acceptance, start, progress and completion.
+_PROGRESS, _FAILED_PROGRESS, _FAILED = 5, 6, (2, 4, 6, 8)
 _FAILURES = dict(enumerate((
     "unknown service or subtype", "malformed body", "unknown memory", "out of range", "wrong checksum",
     "reply too long", "no free identifier", "too many open",
@@ -35,9 +36,9 @@ class RequestOutcome:
     - memory_id, areas, start_address, area_length: of a load, dump or check the memory, how many
       areas, and the first
     - accepted, started, completed: whether its success was reported
-    - failure_code, failure: the first failure of acceptance or start (TM[1,2], TM[1,4]) that was
-      reported, and its words. Failures of progress and completion (TM[1,6], TM[1,8]) aren't read:
-      they count as `unread` in the `PassedOver` of the reports
+    - failure_code, failure: the first failure that was reported, of acceptance, start, progress or
+      completion (TM[1,2], TM[1,4], TM[1,6], TM[1,8]), and its words. The code is None if the report
+      has none of 16 bits, or is one of progress
     - acknowledgement: `not acknowledged` if it asks for no report of success, and didn't fail
     - sharers: how many requests have its source and request ID, if they are several: a report is
       taken for each of them
@@ -66,13 +67,12 @@ class RequestOutcome:
     def is_done(self) -> bool:
         """Whether it didn't fail, and the last success that it asks for was reported: never, if it
         asks for none."""
-        return self.failure_code is None and self._has_last
+        return self.failure is None and self._has_last
 
     @property
     def is_open(self) -> bool:
-        """Whether neither a failure that is read (see `failure_code`) nor the last success that it
-        asks for was reported."""
-        return self.failure_code is None and not self._has_last
+        """Whether neither a failure nor the last success that it asks for was reported."""
+        return self.failure is None and not self._has_last
 
     @property
     def _has_last(self) -> bool:
@@ -92,8 +92,7 @@ class PassedOver:
 
     - parts: of large messages, among requests
     - foreign: packets that aren't read as telecommands among requests, or telemetry among reports
-    - unread: verification reports that aren't read, but those of successful progress; among them
-      may be failures of progress and completion
+    - unread: verification reports that aren't read, except those of successful progress
     - damaged: how many packets are damaged
     - stray: how many octets with which no packet begins
     """
@@ -162,16 +161,17 @@ class Requests:
         """Takes telemetry, or says as what it is passed over."""
         if it.service != SERVICE:
             return ""
+        if it.subtype in _FAILED and len(it.body) >= 4:
+            told = self.told.get((it.user, bytes(it.body[:4]).hex()))
+            if told is not None and "failure" not in told:
+                told.update(_failure_in(it.subtype, it.body))
+            return ""
         try:
             report = read_report(it.subtype, it.body)
         except Fault:
             return "" if it.subtype == _PROGRESS else "unread"
         told = self.told.get((it.user, f"{report.request_id:08x}"))
-        if told is not None and report.code is not None:
-            code = int(report.code)
-            told.setdefault("failure_code", code)
-            told.setdefault("failure", _FAILURES.get(code, "unknown code"))
-        elif told is not None:
+        if told is not None:
             told[_TOLD.get(report.kind, "completed")] = True
         return ""
 
@@ -184,8 +184,16 @@ class Requests:
         key = it.source, it.request_id
         told = dict(self.told[key])
         asks_none = not any(it.acknowledgement_flags & flag for flag, _ in _LASTS)
-        if asks_none and "failure_code" not in told:
+        if asks_none and "failure" not in told:
             told["acknowledgement"] = "not acknowledged"
         if self.sharers[key] > 1:
             told["sharers"] = self.sharers[key]
         return replace(it, **told)
+
+
+def _failure_in(subtype: int, body: bytes) -> dict[str, Any]:
+    """What the body of a report of failure says: its code, if that has 16 bits, and its words."""
+    if subtype == _FAILED_PROGRESS or len(body) != 6:
+        return {"failure": "failed, code not read"}
+    code = int.from_bytes(body[4:], "big")
+    return {"failure_code": code, "failure": _FAILURES.get(code, "unknown code")}

@@ -1,7 +1,7 @@
 """Space packets (CCSDS 133.0-B), and telecommands and telemetry of ECSS-E-ST-70-41C in them.
 
-If a reader gets a `memoryview`, it returns views of the same octets, which are right as long as these
-don't change; otherwise it returns copies.
+If a function `read_..` gets a `memoryview`, it returns views of the same octets, which are right as
+long as these don't change; otherwise it returns copies.
 """
 
 from __future__ import annotations
@@ -115,7 +115,7 @@ def write_packet(packet: Packet) -> bytes:
 def packet_length(octets: Octets) -> int:
     """The length of the packet at the front of these octets, idle or not, from the first six.
 
-    Raises `More` if there are fewer, and `Version` if no packet begins with them.
+    Raises `Version` if no packet begins with them, otherwise `More` if there are fewer.
     """
     front, length = bytes(view_of(octets)[:6]), SIZE(0)
     _allow_idle(_codecs.lpt_packet_length(front, len(front), byref(length)))

@@ -92,6 +92,13 @@ static const uint8_t FAILED_1[] = {
 static const uint8_t REFUSED_1[] = {
     0x08, 0x64, 0xc0, 0x01, 0x00, 0x12, 0x20, 0x01, 0x02, 0x00, 0x00, 0x00, 0x07,
     0x00, 0x00, 0x00, 0x00, 0x18, 0x64, 0xc0, 0x00, 0x00, 0x04, 0x58, 0x30};
+/* That the first failed at its completion, and a step of the second. */
+static const uint8_t UNDONE_0[] = {
+    0x08, 0x64, 0xc0, 0x00, 0x00, 0x12, 0x20, 0x01, 0x08, 0x00, 0x00, 0x00, 0x07,
+    0x00, 0x00, 0x00, 0x00, 0x18, 0x64, 0xff, 0xff, 0x00, 0x04, 0x30, 0x7b};
+static const uint8_t STEP_1[] = {
+    0x08, 0x64, 0xc0, 0x01, 0x00, 0x13, 0x20, 0x01, 0x06, 0x00, 0x00, 0x00, 0x07,
+    0x00, 0x00, 0x00, 0x00, 0x18, 0x64, 0xc0, 0x00, 0x01, 0x00, 0x04, 0x0e, 0x40};
 static const uint8_t OF_OTHER[] = {
     0x08, 0x64, 0xc0, 0x02, 0x00, 0x10, 0x20, 0x01, 0x07, 0x00, 0x00, 0x00, 0x08,
     0x00, 0x00, 0x00, 0x00, 0x18, 0x64, 0xff, 0xff, 0x04, 0x1e};
@@ -197,6 +204,17 @@ static void load(void) {
     lpt_ground_free(pass);
 }
 
+/* Failures that this project's spacecraft never reports. */
+static void others_fail(void) {
+    LptGround *pass = made(&LOAD, &PLACE);
+    DONE(lpt_ground_packet(pass, STEP_1, sizeof STEP_1));
+    EXPECT(became(pass, 1, LPT_FATE_FAILED, LPT_CODE_UNREAD) && has(pass, 0, 1, 1));
+    DONE(lpt_ground_packet(pass, UNDONE_0, sizeof UNDONE_0));
+    EXPECT(became(pass, 0, LPT_FATE_FAILED, LPT_FAILURE_OUT_OF_RANGE) && has(pass, 0, 2, 0));
+    EXPECT(is_next(pass, LPT_STEP_FAILED));
+    lpt_ground_free(pass);
+}
+
 /* What ends a load otherwise. */
 static void ends(void) {
     LptJob job = LOAD;
@@ -262,6 +280,8 @@ static void refusals(void) {
     static const LptPlace none = {16, 0}, last = {4294967295u, 1}, past = {4294967295u, 2};
     static const LptPlace most = {0, 16384 * 8}, more = {0, 16384 * 8 + 1};
     static const LptPlace both[] = {{16, 5}, {40, 7}};
+    static const LptPlace over[] = {{16, 5}, {40, 2}, {20, 5}};
+    static const LptPlace beside[] = {{16, 5}, {26, 2}, {21, 5}};
     static const uint32_t kinds[] = {0, 4};
     LptGround *pass = NULL;
     LptJob job = LOAD;
@@ -313,6 +333,15 @@ static void refusals(void) {
     DONE(lpt_ground_new(&pass, &LOAD, both, 2, CONTENT, sizeof CONTENT));
     EXPECT(has(pass, 0, 0, 2));
     lpt_ground_free(pass);
+    pass = NULL;
+    EXPECT(lpt_ground_new(&pass, &LOAD, over, 3, CONTENT, sizeof CONTENT) == LPT_E_BAD_AREA);
+    EXPECT(lpt_ground_new(&pass, &LOAD, over, 3, CONTENT, 11) == LPT_E_RANGE && pass == NULL);
+    DONE(lpt_ground_new(&pass, &LOAD, beside, 3, CONTENT, sizeof CONTENT));
+    EXPECT(has(pass, 0, 0, 3));
+    lpt_ground_free(pass);
+    pass = NULL;
+    DONE(lpt_ground_new(&pass, &DUMP, over, 3, NULL, 0));
+    lpt_ground_free(pass);
 }
 
 /* Each request for memory is refused in turn, until none is. */
@@ -339,6 +368,7 @@ static void scarce(void) {
 
 int main(void) {
     load();
+    others_fail();
     ends();
     dump();
     check();

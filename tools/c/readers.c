@@ -562,7 +562,7 @@ static void laying(void) {
     DONE(lpt_reader_lay(reader, DUMPED, sizeof DUMPED, &of, NULL, 0, &laid));
     EXPECT(is_laid(&laid, LPT_LAID_APID, 0, 100, 0));
     DONE(lpt_reader_lay(reader, PART_DOWN, sizeof PART_DOWN, &of, NULL, 0, &laid));
-    EXPECT(is_laid(&laid, LPT_LAID_OTHER, 0, 0, 0));
+    EXPECT(is_laid(&laid, LPT_LAID_APID, 0, 100, 0));
     of.apid = 100;
     DONE(lpt_reader_lay(reader, PART_DOWN, sizeof PART_DOWN, &of, NULL, 0, &laid));
     EXPECT(is_laid(&laid, LPT_LAID_PART, 0, 0, 0));

@@ -25,7 +25,7 @@ from forgesilver import Direction, Joined, Name, NotJoined, faults
 STREAMS, DAMAGED = 150, 40
 SIZE, APID = 8, 100
 WORDS = ["--part-size", str(SIZE)]
-LOST = re.compile(r"lpt: \w+ (?:(\d+)/)?(\d+): (?:from octet \d+ on, )?missing parts: \d+:(\S+)")
+LOST = re.compile(r"lpt: \w+ (?:(\d+)/)?(\d+): (?:from octet \d+ on, )?missing parts: [\d/]+:(\S+)")
 UNFIT = re.compile(r"lpt: \w+ (?:(\d+)/)?(\d+): the joined message is no packet(?: of its direction|: fault (\d+) \w+)")
 FITTING = re.compile(r"lpt: \w+: (\d+) parts don't fit part_size = \d+, but part_size = (\d+)")
 OTHERS = re.compile(r"lpt: \w+: (\d+ packets? of another APID .*APID )(\d+)$")
@@ -185,12 +185,12 @@ def sizes(want, driver) -> None:
     for octets, count in ((b"".join(zeros), len(zeros)), (zeros[0], 1)):
         _, _, said = driver.run(["join", "up", *WORDS], octets)
         its = f"{count} part{'s have' if count > 1 else ' has'} number 0"
-        want("number 0, by the program", said[1:], [f"lpt: up: {its}"])
+        want("number 0, by the program", said, [f"lpt: up: {its}"])
         for call in (forgesilver.join, all_joined):
             want("number 0", raised(call, octets, part_size=SIZE), f"{its}: the packets may have another layout")
     first = f.write_telecommand(dataclasses.replace(f.read_telecommand(made[0]), body=bytes.fromhex("00070002") + bytes(16)))
     _, _, said = driver.run(["join", "up", *WORDS], first)
-    want("a first part of number 2, by the program", said[1:], ["lpt: up: 1 part doesn't fit part_size = 8, at octet 0"])
+    want("a first part of number 2, by the program", said, ["lpt: up: 1 part doesn't fit part_size = 8, at octet 0"])
     want("a first part of number 2", raised(forgesilver.join, first, part_size=SIZE), "1 part doesn't fit part_size=8")
 
 

@@ -24,7 +24,7 @@ TIMES = {
 EPOCHS = ["1980-01-06", "1958-01-01", '"2000-02-29"', "9999-12-30"]
 PREAMBLES = {'"cuc 1 1 p"': (0x11, 0x21), "'cds 24 us p'": (0x45, 0x4D), '"cuc 4 3 p"': (0x1F, 0x2F)}
 IDLE = bytes.fromhex("07ffc0000003") + b"idle"
-LOST = re.compile(r"lpt: down (?:\d+/)?(\d+): (?:.*octet (\d+) on, )?(?:missing parts: \d+:(\S+))?")
+LOST = re.compile(r"lpt: down (?:\d+/)?(\d+): (?:.*octet (\d+) on, )?(?:missing parts: [\d/]+:(\S+))?")
 
 
 class Type:
@@ -159,9 +159,10 @@ def told_of(image: Image) -> list[str]:
     for first, last in image.missing:
         run = f"address {first}" if first == last else f"addresses {first}-{last}"
         said.append(f"lpt: memory 1: no octets came for {run}")
-    for its, of in ((image.of_memories, "memory"), (image.of_apids, "APID")):
-        if its.count and (of == "APID" or not image.octets):
-            said.append(f"lpt: dump reports of another {of}: {its.count}, the first of {its.first}")
+    if image.of_memories.count and not image.octets:
+        said.append("lpt: dump reports of another memory: {0.count}, the first of {0.first}".format(image.of_memories))
+    if image.of_apids.count and not image.is_clean:
+        said.append("lpt: dump reports or parts of another APID: {0.count}, the first of {0.first}".format(image.of_apids))
     return said + no_packets("", image.damaged, image.stray)
 
 
@@ -217,9 +218,9 @@ def reports_on(r: random.Random, asked: list[tuple[bytes, int]], up: Type, down:
     packets = []
     for _ in range(r.randrange(3 * len(asked) + 3)):
         request, user = r.choice(asked) if asked and r.random() < 0.9 else (r.randbytes(4), 1)
-        subtype = r.choice([1, 3, 7, 1, 3, 7, 2, 4, 5, 8, 9])
-        code = r.choice([r.randrange(1, 10), r.randrange(65536)]).to_bytes(2, "big") if subtype in (2, 4, 8) else b""
-        body = (request + code)[: r.choice([None] * 20 + [-1])]
+        subtype = r.choice([1, 3, 7, 1, 3, 7, 2, 4, 5, 6, 8, 9])
+        code = r.choice([r.randrange(1, 10), r.randrange(65536)]).to_bytes(2, "big") + r.choice([b""] * 4 + [b"1", b"123"])
+        body = (request + (code if subtype in (2, 4, 6, 8) else b""))[: r.choice([None] * 20 + [-1])]
         user = (user + (r.random() < 0.1)) % 3 if down.user else 0
         packets.append(down.packet(1, subtype, body, user, r.choice(APIDS)))
         packets += r.choice([[]] * 20 + [[up.packet(17, 1, b"")], [down.packet(3, 25, b"1")], [IDLE],

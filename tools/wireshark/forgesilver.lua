@@ -976,6 +976,7 @@ local function part_body(kind)
         if layout.user > 0 then tree:add(m.source, head.peer):set_generated() end
         local fault = part_fault(kind, body, layout)
         if fault then
+            tree:add(m.octets, math.max(0, body:len() - start)):set_generated()
             if not head.fault then
                 tree:add(m.fault, fault):set_generated()
                 tree:add_proto_expert_info(x.unread, "The part isn't read: " .. FAULTS[fault])
@@ -1091,6 +1092,7 @@ local BODIES = {
 local function show_no_body(title, tree)
     local fault = title == "TM[13,16]" and ABORT_BODY or title:match("%[13,") and SHORT_PART
     if fault then
+        if fault == SHORT_PART then tree:add(m.octets, 0):set_generated() end
         tree:add(m.fault, fault):set_generated()
         tree:add_proto_expert_info(x.unread, "There is no body: " .. FAULTS[fault])
     else

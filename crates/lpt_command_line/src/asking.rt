@@ -157,8 +157,9 @@ pub(crate) static REQUEST_LOAD: CommandRow = CommandRow {
         EACH,
         ACK,
         COUNT,
+        LAYOUT,
     ],
-    configured: Configured::Packets,
+    configured: Configured::Requests,
 };
 
 /// `request dump`.
@@ -166,8 +167,8 @@ pub(crate) static REQUEST_DUMP: CommandRow = CommandRow {
     name: "dump",
     about: "Ask for octets of a memory",
     words: &[MEMORY, PLACES],
-    named: &[EACH, ACK, COUNT],
-    configured: Configured::Packets,
+    named: &[EACH, ACK, COUNT, LAYOUT],
+    configured: Configured::Requests,
 };
 
 /// `request check`.
@@ -175,6 +176,6 @@ pub(crate) static REQUEST_CHECK: CommandRow = CommandRow {
     name: "check",
     about: "Ask for checksums of a memory",
     words: &[MEMORY, PLACES],
-    named: &[EACH, ACK, COUNT],
-    configured: Configured::Packets,
+    named: &[EACH, ACK, COUNT, LAYOUT],
+    configured: Configured::Requests,
 };

@@ -8,7 +8,7 @@ use crate::grounds::{
 };
 use crate::passes::{LINK, SPACECRAFT};
 use crate::row::{CommandRow, Configured, Family, NamedRow, Word};
-use crate::setting_words::{PASS_SETTINGS, SETTINGS};
+use crate::setting_words::{PASS_SETTINGS, REQUEST_SETTINGS, SETTINGS};
 use clap::builder::ValueParser;
 use clap::{Arg, Command};
 use std::alloc::{AllocError, Global};
@@ -35,7 +35,8 @@ Examples:
 Statuses:
   0  everything was done
   1  something was refused, failed, differs, is open or isn't whole, nothing was found,
-     or octets are no packet (join, chart, and list unless --strict, pass over them)
+     or octets are no packet (chart, list unless --strict, and join if packets have a
+     checksum, pass over them)
   2  the command line, a line of the script, HEX, the configuration, a layout or a list
      of patches can't be read
   3  a file can't be read or written, or is in use or of another job, memory ran out,
@@ -216,6 +217,7 @@ fn settings_of(configured: Configured) -> &'static [NamedRow] {
         Configured::No => &[],
         // All but the last, `mode`.
         Configured::Packets => &SETTINGS[..4],
+        Configured::Requests => &REQUEST_SETTINGS,
         Configured::Pass => &PASS_SETTINGS,
         Configured::Nodes => &SETTINGS,
     }

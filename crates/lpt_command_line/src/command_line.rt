@@ -3,7 +3,7 @@
 use crate::building::program;
 use crate::compare_words::{ChecksumWords, CompareWords, checksum_command, compare_command};
 use crate::extract_words::{ExtractWords, extract_command};
-use crate::file_words::{JoinWords, ListWords, check_order, join_command, list_command};
+use crate::file_words::{JoinWords, ListWords, STANDARD, check_order, join_command, list_command};
 use crate::ground_words::{GroundWords, ground_command};
 use crate::layout_words::{DecodeWords, decode_command, layout_in};
 use crate::link_words::{LinkWords, link_command};
@@ -17,6 +17,19 @@ use crate::verify_words::{VerifyWords, verify_command};
 use crate::word_fault::WordFault;
 use clap::{ArgMatches, Error};
 use std::alloc::{AllocError, Global};
+
+/// The options that name a file or a folder, and what help calls them.
+const PATHS: [(&str, &str); 9] = [
+    ("config", "--config <FILE>"),
+    ("layout", "--layout <FILE>"),
+    ("to", "--to <FILE>"),
+    ("each", "--each <DIR>"),
+    ("up", "--up <FIFO>"),
+    ("job", "--job <FILE>"),
+    ("chart", "--chart <FILE>"),
+    ("passes", "--passes <FILE>"),
+    ("state", "--state <FILE>"),
+];
 
 /// What the words ask for.
 #[derive(Drop)]
@@ -138,15 +151,30 @@ fn words_meant<'a>(
     let Some((name, inner)) = matches.subcommand() else {
         return Err(WordFault::Missing);
     };
-    let (words, command) = match inner.subcommand() {
-        None => (inner, command_of(alloc, name, inner)),
-        Some((below, words)) => (words, command_below(alloc, name, below, words)),
+    let (words, below) = match inner.subcommand() {
+        None => (inner, None),
+        Some((below, words)) => (words, Some(below)),
+    };
+    check_paths(words)?;
+    let command = match below {
+        None => command_of(alloc, name, words),
+        Some(below) => command_below(alloc, name, below, words),
     };
     Ok(CommandLine {
         command: command?,
         settings: setting_words(words),
         quiet: words.get_flag("quiet"),
     })
+}
+
+// Refuses `-` behind the options that name a file or a folder.
+fn check_paths<'a>(words: &ArgMatches<'a>) -> Result<(), WordFault<'a>> {
+    for (option, place) in PATHS {
+        if words.get_str(option) == Some(STANDARD) {
+            return Err(WordFault::NoPath(place));
+        }
+    }
+    Ok(())
 }
 
 // What the words of a command of this name ask for, which stands below another.

@@ -280,7 +280,7 @@ pub(crate) static JOIN: CommandRow = CommandRow {
             behind: &[],
             action: ArgAction::SetTrue,
             other: &[],
-            help: "Write the first message that is whole, whatever comes after it",
+            help: "Write the first message under its name, even if others come after it",
         },
         NamedRow {
             name: "any",

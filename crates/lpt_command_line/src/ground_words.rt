@@ -113,6 +113,9 @@ pub(crate) fn ground_words<'a>(
     matches: &ArgMatches<'a>,
 ) -> Result<GroundWords<'a>, WordFault<'a>> {
     let source = source_in(matches)?;
+    if matches.get_str("LIST") == Some(STANDARD) {
+        return Err(WordFault::NoPath("<LIST>"));
+    }
     let areas = match name {
         "patch" => Vec::new(alloc),
         "dump" => dumped_areas(alloc, matches)?,
@@ -280,6 +283,9 @@ fn add_dumped<'a>(
             return Err(WordFault::Missing);
         };
         let area = dumped_area(memory, address, len, file)?;
+        if area.file == STANDARD {
+            return Err(WordFault::NoPath("--area <ADDRESS> <LENGTH> <FILE>"));
+        }
         if has_file(areas, area.file) {
             return Err(WordFault::SameFile(area.file));
         }

@@ -36,7 +36,8 @@ const WAIT: NamedRow = NamedRow {
     behind: &["MS"],
     action: ArgAction::Set,
     other: &["1000"],
-    help: "Send again what is open if nothing came for so long: more than a round trip",
+    help: "Send again what is open if nothing came for so long: more than a round trip, and than \
+           a round takes on board",
 };
 
 const SHORT_WAIT: NamedRow = NamedRow {
@@ -55,7 +56,8 @@ const TRIES: NamedRow = NamedRow {
 
 const LOAD_TRIES: NamedRow = NamedRow {
     other: &[],
-    help: "Give up after so many waits in a row that settled nothing [default: 10]",
+    help: "Give up after so many waits in a row that settled nothing \
+           [default: 10; with --large as many as it has rounds]",
     ..TRIES
 };
 
@@ -208,6 +210,11 @@ pub(crate) static GROUND_PATCH: CommandRow = CommandRow {
     configured: Configured::Pass,
 };
 
+const PASS_SEED: NamedRow = NamedRow {
+    help: "The random seed; what gets lost also depends on how fast the machine is",
+    ..SEED
+};
+
 /// The words that each command below `pass` takes after its own.
 pub(crate) static PASS_WORDS: [NamedRow; 12] = [
     JOB,
@@ -220,7 +227,7 @@ pub(crate) static PASS_WORDS: [NamedRow; 12] = [
     REPEAT,
     DAMAGE,
     DELAY,
-    SEED,
+    PASS_SEED,
     QUIET,
 ];
 

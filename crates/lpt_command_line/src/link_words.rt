@@ -1,6 +1,7 @@
 //! The words of the command that carries packets over a link that loses.
 
 use crate::command_line::Command;
+use crate::layout_words::layout_in;
 use crate::word_fault::WordFault;
 use clap::ArgMatches;
 use std::alloc::Global;
@@ -15,6 +16,8 @@ pub struct LinkWords<'a> {
     pub files: Vec<&'a str>,
     /// What becomes of them.
     pub odds: OddsWords,
+    /// The path of the layouts, if one is given.
+    pub layout: Option<&'a str>,
 }
 
 /// What becomes of packets on a link. The odds are millionths.
@@ -45,6 +48,7 @@ pub(crate) fn link_command<'a>(
     Ok(Command::Link(LinkWords {
         files: Vec::from_slice(alloc, files)?,
         odds: odds_words(matches)?,
+        layout: layout_in(matches),
     }))
 }
 

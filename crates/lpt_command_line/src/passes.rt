@@ -1,6 +1,7 @@
 //! The commands that play a pass: the link, and the spacecraft's end.
 
 use crate::commands::{PACKETS, QUIET, TEXT, U32, U64};
+use crate::layout_words::LAYOUT;
 use crate::row::{CommandRow, Configured, NamedRow};
 use clap::ArgAction;
 use clap::builder::ValueParser;
@@ -91,7 +92,7 @@ pub(crate) static LINK: CommandRow = CommandRow {
     name: "link",
     about: "Lose, repeat, delay and damage packets, as a link does",
     words: &[PACKETS],
-    named: &[LOSE, REPEAT, DAMAGE, DELAY, SEED, QUIET],
+    named: &[LOSE, REPEAT, DAMAGE, DELAY, SEED, LAYOUT, QUIET],
     configured: Configured::No,
 };
 

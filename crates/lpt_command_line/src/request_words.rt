@@ -4,6 +4,7 @@ ghost use Rattle.std.specs.Prelude.{◌<◌, ◌≤◌, IfOk};
 
 use crate::command_line::Command;
 use crate::file_words::{STANDARD, count_in};
+use crate::layout_words::layout_in;
 use crate::number_words::number_in;
 use crate::word_fault::WordFault;
 use clap::ArgMatches;
@@ -26,6 +27,8 @@ pub struct RequestWords<'a> {
     pub count: u16,
     /// The acknowledgement flags.
     pub flags: AckFlags,
+    /// The path of the layouts, if one is given.
+    pub layout: Option<&'a str>,
     ghost counts: { count ≤ 16383 },
     ghost some_each: { 0 < each },
 }
@@ -105,6 +108,7 @@ fn request_with<'a>(
         cut,
         count,
         flags,
+        layout: layout_in(matches),
     }))
 }
 

@@ -25,6 +25,8 @@ pub(crate) enum Configured {
     No,
     /// Those of packets: all but in which order a node takes parts.
     Packets,
+    /// The same, and the source of telecommands.
+    Requests,
     /// The same, and a source that is the pass's own.
     Pass,
     /// Those of packets and of nodes: all.

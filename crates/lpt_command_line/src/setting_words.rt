@@ -71,6 +71,21 @@ pub(crate) static SETTINGS: [NamedRow; 5] = [
     },
 ];
 
+/// Those of requests, which are telecommands of the source.
+pub(crate) static REQUEST_SETTINGS: [NamedRow; 4] = [
+    CONFIG,
+    APID,
+    NamedRow {
+        name: "source",
+        value: ValueParser::Signed(0, 65_535),
+        behind: &["N"],
+        action: ArgAction::Set,
+        other: &[],
+        help: "The source ID of the telecommands, 0 to 65535",
+    },
+    PART_SIZE,
+];
+
 /// Those of a pass, which has a source of its own.
 pub(crate) static PASS_SETTINGS: [NamedRow; 4] = [
     CONFIG,

@@ -1,6 +1,7 @@
 //! The words of the spacecraft's end.
 
 use crate::command_line::Command;
+use crate::file_words::STANDARD;
 use crate::word_fault::WordFault;
 use clap::ArgMatches;
 use std::alloc::Global;
@@ -91,6 +92,7 @@ fn memory_in<'a>(word: &'a str) -> Result<(u8, &'a str), WordFault<'a>> {
         return Err(WordFault::NoMemory(word));
     };
     match id.parse() {
+        Ok(_) if file == STANDARD => Err(WordFault::NoPath("--memory <ID=FILE>")),
         Ok(id) => Ok((id, file)),
         Err(_) => Err(WordFault::NoMemory(word)),
     }

@@ -55,11 +55,13 @@ pub struct SplitEachWords<'a> {
     pub picks: Vec<GivenPick<'a>>,
 }
 
-/// Parts of one message, as `ID:LIST` names them.
+/// Parts of one message, as `ID:LIST` or `SOURCE/ID:LIST` names them.
 #[derive(Clone, Copy)]
 pub struct GivenPick<'a> {
     /// The word.
     pub word: &'a str,
+    /// The message's source, if it is given.
+    pub source: Option<u32>,
     /// The message's identifier.
     pub id: u32,
     /// The list of its parts.
@@ -78,6 +80,19 @@ impl<'a> GivenPick<'a> {
             word: self.word,
             most,
         })
+    }
+
+    /// Whether its source, if it is given, is this one.
+    ///
+    /// Errors: `PickSource`.
+    pub fn check_source(&self, source: u32) -> Result<(), WordFault<'a>> {
+        match self.source {
+            Some(given) if given != source => Err(WordFault::PickSource {
+                word: self.word,
+                source,
+            }),
+            _ => Ok(()),
+        }
     }
 }
 
@@ -190,12 +205,14 @@ fn is_picked(picks: &[GivenPick<'_>], id: u32) -> bool {
     picks.iter().any(|pick| pick.id == id)
 }
 
-// What a word chooses, as `ID:LIST`.
+// What a word chooses, as `ID:LIST` or as `SOURCE/ID:LIST`.
 fn pick_in(word: &str) -> Option<GivenPick<'_>> {
-    let (id, parts) = word.split_once(':')?;
+    let (name, parts) = word.split_once(':')?;
+    let name = wide_name_in(name)?;
     Some(GivenPick {
         word,
-        id: id.parse().ok()?,
+        source: name.source,
+        id: name.id,
         parts,
     })
 }

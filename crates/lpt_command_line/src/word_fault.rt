@@ -27,6 +27,11 @@ pub enum WordFault<'a> {
         each: u16,
         limit: u16,
     },
+    /// This source is greater than this, the most that the layout has room for.
+    Source {
+        source: u16,
+        most: u32,
+    },
     /// This one is no percentage.
     Odds(&'a str),
     /// These two don't stand beside each other.
@@ -43,6 +48,11 @@ pub enum WordFault<'a> {
         word: &'a str,
         most: u32,
     },
+    /// This one's source isn't this one, under which the messages go.
+    PickSource {
+        word: &'a str,
+        source: u32,
+    },
     /// This one's identifier has a list already.
     PickedTwice(&'a str),
     /// Standard input is to be read twice.
@@ -51,6 +61,8 @@ pub enum WordFault<'a> {
     SharedInput,
     /// Standard input is to be a file of octets.
     NoInput,
+    /// The file or the folder of this word is to be standard input or output.
+    NoPath(&'static str),
     /// Two areas are to become this file.
     SameFile(&'a str),
     /// A dump is to become this file, which this option names as well.
@@ -88,6 +100,7 @@ impl WordFault<'_> {
                 format!(in alloc; "a '<LENGTH>' is missing after the '<ADDRESS>' {word}")
             }
             WordFault::Each { each, limit } => too_many(alloc, *each, *limit),
+            WordFault::Source { source, most } => no_source(alloc, *source, *most),
             WordFault::Odds(word) => no_odds(alloc, word),
             WordFault::Beside(one, other) => {
                 format!(in alloc; "the argument '{one}' cannot be used with '{other}'")
@@ -97,12 +110,14 @@ impl WordFault<'_> {
             }
             WordFault::NoMemory(word) => no_memory(alloc, word),
             WordFault::Pick { word, most } => no_pick(alloc, word, *most),
+            WordFault::PickSource { word, source } => another_source(alloc, word, *source),
             WordFault::PickedTwice(word) => {
                 format!(in alloc; "the ID of '--parts {word}' has a list already")
             }
             WordFault::Twice => format!(in alloc; "'-' stands twice, and can be read only once"),
             WordFault::SharedInput => shared_input(alloc),
             WordFault::NoInput => no_input(alloc),
+            WordFault::NoPath(place) => no_path(alloc, place),
             WordFault::SameFile(file) => format!(in alloc; "two areas would become {file}"),
             WordFault::Overwritten { file, option } => {
                 format!(in alloc; "the dump would overwrite {file}, the file of '{option}'")
@@ -138,6 +153,11 @@ fn no_pick(alloc: Global, word: &str, most: u32) -> Result<String, AllocError> {
     )
 }
 
+// What is reported of a word whose source isn't this one, under which the messages go.
+fn another_source(alloc: Global, word: &str, source: u32) -> Result<String, AllocError> {
+    format!(in alloc; "the source of '--parts {word}' isn't that of '<ID>', {source}")
+}
+
 // What is reported of a word that is no memory's identifier with a file.
 fn no_memory(alloc: Global, word: &str) -> Result<String, AllocError> {
     format!(in alloc; "invalid value '{word}' for '--memory': not ID=FILE with an ID from 0 to 255")
@@ -158,18 +178,28 @@ fn no_input(alloc: Global) -> Result<String, AllocError> {
     format!(in alloc; "'-' can't be read here: give the octets' path")
 }
 
+// What is reported where standard input or output is to be a file or a folder.
+fn no_path(alloc: Global, place: &str) -> Result<String, AllocError> {
+    format!(in alloc; "the argument '{place}' cannot be '-': a file of that name is ./-")
+}
+
 // What is reported of a job's file beside a spacecraft that forgets what was loaded.
 fn unkept(alloc: Global) -> Result<String, AllocError> {
     format!(in alloc;
         "the argument '--job <FILE>' needs '--state <FILE>', or '--save' and a \
-         '--memory <ID=FILE>' for each memory: otherwise the next run's spacecraft has forgotten \
-         what was loaded"
+         '--memory <ID=FILE>' for each memory that is loaded: otherwise the next run's spacecraft \
+         has forgotten what was loaded"
     )
 }
 
 // What is reported of a number of octets that is more than a request holds.
 fn too_many(alloc: Global, each: u16, limit: u16) -> Result<String, AllocError> {
     format!(in alloc; "invalid value '{each}' for '--each <N>': not a number from 1 to {limit}")
+}
+
+// What is reported of a source that is greater than a layout has room for.
+fn no_source(alloc: Global, source: u16, most: u32) -> Result<String, AllocError> {
+    format!(in alloc; "invalid value '{source}' for '--source <N>': not a number from 0 to {most}")
 }
 
 // What is reported of a word that is no number of 32 bits, or below the lowest.

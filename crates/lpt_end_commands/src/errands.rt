@@ -6,10 +6,10 @@ use crate::pieces::Piece;
 use crate::uplinks::{LONGEST_LOAD, uplink_in};
 use lpt_command_line::{AckFlags, GroundWords, Job};
 use lpt_events::Config;
-use lpt_ground::{MOST, Pass, Terms};
+use lpt_ground::{MOST, Pass, Terms, overlap};
 use lpt_ground_run::{
     Area, AreaPlace, Asked, Heads, PlanFault, Read, Uplink, check_each, dump_each, plan_loads,
-    plan_reads,
+    plan_reads, some_done,
 };
 use std::alloc::Global;
 
@@ -22,7 +22,7 @@ const START: u8 = 2;
 const COMPLETION: u8 = 8;
 
 /// What a request is.
-#[derive(Clone, Copy)]
+#[derive(Clone, Copy, PartialEq, Eq)]
 pub enum ErrandKind {
     /// A load.
     Load,
@@ -61,16 +61,17 @@ impl Places {
         u64::from(self.len).div_ceil(u64::from(self.each.max(1)))
     }
 
-    // The address behind the last of these octets.
-    fn end(&self) -> u64 {
-        u64::from(self.address).saturating_add(u64::from(self.len))
-    }
-
     // Whether some octet is one of these and of others.
     fn overlaps(&self, other: &Places) -> bool {
-        self.memory == other.memory
-            && u64::from(self.address) < other.end()
-            && u64::from(other.address) < self.end()
+        self.memory == other.memory && overlap(self.range(), other.range())
+    }
+
+    // The same octets of their memory.
+    fn range(&self) -> AreaPlace {
+        AreaPlace {
+            address: self.address,
+            len: self.len,
+        }
     }
 }
 
@@ -83,8 +84,10 @@ pub struct Errand {
     pub first: Pass,
     /// How its one request goes up, if that goes as a large message.
     pub uplink: Option<Uplink>,
-    /// The dumps by which loads are verified.
+    /// What is read once it is loaded.
     pub second: Option<(Vec<Places>, Pass)>,
+    // The same of a job that goes on.
+    again: Option<(Vec<Places>, Pass)>,
     // The content that is loaded or checked, area by area.
     areas: Vec<Area>,
 }
@@ -95,6 +98,16 @@ impl Errand {
         match self.areas.get(number) {
             Some(area) => area.octets.as_slice(),
             None => &[],
+        }
+    }
+
+    /// If some loads were completed in an earlier run, all octets are read behind the loads: the
+    /// spacecraft may have forgotten them since.
+    pub fn look_again(&mut self) {
+        if some_done(self.first.requests_asked()) {
+            if let Some(again) = self.again.take() {
+                self.second = Some(again);
+            }
         }
     }
 }
@@ -119,21 +132,20 @@ pub fn errand_of(
     };
     let part = u16::try_from(config.part_size).unwrap_or(u16::MAX);
     let places = all_places(alloc, words, part, &pieces)?;
-    let verified = verified_places(alloc, words, part, &places, &pieces)?;
+    let verified = places_read(alloc, words, part, &places, &pieces, false)?;
+    let looked_at = places_read(alloc, words, part, &places, &pieces, words.kept.is_some())?;
     let areas = areas_of(alloc, pieces)?;
     let asked = all_asked(alloc, &heads, &places, &areas)?;
-    let second = verifying(alloc, &heads, words, verified, asked.len())?;
+    let second = reading(alloc, &heads, words, verified, asked.len())?;
+    let again = reading(alloc, &heads, words, looked_at, asked.len())?;
     let uplink = uplink_in(alloc, config, words, &heads, &asked)?;
-    let tries = match words.large {
-        Some(large) => large.tries,
-        None => words.tries,
-    };
-    let first = Pass::new(terms_of(&heads, tries), asked);
+    let first = Pass::new(terms_of(&heads, tries_of(words)), asked);
     Ok(Errand {
         places,
         first,
         uplink,
         second,
+        again,
         areas,
     })
 }
@@ -203,10 +215,7 @@ fn asked_of(
     places: &Places,
     areas: &[Area],
 ) -> Result<Vec<Asked>, PlanFault> {
-    let range = AreaPlace {
-        address: places.address,
-        len: places.len,
-    };
+    let range = places.range();
     let each = places.each.max(1);
     let memory = places.memory;
     match places.kind {
@@ -276,31 +285,33 @@ fn places_of(
     })
 }
 
-// The octets that are dumped once they are loaded.
-fn verified_places(
+// The octets that are read once they are loaded: those that are verified are dumped; of a job that
+// goes on the others are checked.
+fn places_read(
     alloc: Global,
     words: &GroundWords<'_>,
     part: u16,
     places: &[Places],
     pieces: &[Piece],
+    goes_on: bool,
 ) -> Result<Vec<Places>, PlanFault> {
-    let mut verified = Vec::new(alloc);
+    let mut all = Vec::new(alloc);
     let Job::Load { verify, .. } = words.job else {
-        return Ok(verified);
+        return Ok(all);
     };
     for (one, piece) in places.iter().zip(pieces) {
-        if verify || piece.verify {
-            let dumped = Places {
-                kind: ErrandKind::Dump,
-                each: dump_each(part)?,
-                ..*one
-            };
-            if verified.push(dumped).is_err() {
+        let read = match (verify || piece.verify, goes_on) {
+            (true, _) => Some((ErrandKind::Dump, dump_each(part)?)),
+            (false, true) => Some((ErrandKind::Check, check_each(part)?)),
+            (false, false) => None,
+        };
+        if let Some((kind, each)) = read {
+            if all.push(Places { kind, each, ..*one }).is_err() {
                 return Err(PlanFault::Memory);
             }
         }
     }
-    Ok(verified)
+    Ok(all)
 }
 
 // The contents, each with its address. The only error is out of memory.
@@ -319,8 +330,8 @@ fn areas_of(alloc: Global, pieces: Vec<Piece>) -> Result<Vec<Area>, PlanFault> {
     Ok(areas)
 }
 
-// The pass that dumps these octets behind so many loads, if there are any.
-fn verifying(
+// The pass that reads these octets behind so many loads, if there are any.
+fn reading(
     alloc: Global,
     heads: &Heads,
     words: &GroundWords<'_>,
@@ -337,6 +348,14 @@ fn verifying(
         return Err(PlanFault::TooMany(many as u64));
     }
     Ok(Some((places, Pass::new(terms_of(&heads, words.tries), asked))))
+}
+
+// After how many waits in a row that settled nothing the first pass is given up.
+fn tries_of(words: &GroundWords<'_>) -> u32 {
+    match words.large {
+        Some(large) => large.tries,
+        None => words.tries,
+    }
 }
 
 // Whose reports count, and when a pass is given up.

@@ -1,6 +1,6 @@
 //! The lines that tell what becomes of a pass, for a reader or as objects of JSON.
 
-use lpt_ground_run::RunCounts;
+use lpt_ground_run::{FailureNotice, RunCounts};
 use lpt_io::octets_word;
 use std::alloc::{AllocError, Global};
 
@@ -20,8 +20,8 @@ pub struct Stretch {
 pub enum Became {
     /// No report says what became of their requests.
     Open,
-    /// Their requests failed with this code.
-    Failed(u16),
+    /// Their requests failed with this notice.
+    Failed(FailureNotice),
     /// Somewhere among them the memory has others.
     Unlike,
     /// From the first of them on the memory has others, of which some may be alike.
@@ -48,7 +48,7 @@ pub fn became_line(
         Became::Open => {
             format!(in alloc; "open: memory {memory} from {address} on, {octets} {word}")
         }
-        Became::Failed(code) => failed_line(alloc, code, stretch),
+        Became::Failed(notice) => failed_line(alloc, notice, stretch),
         Became::Unlike => unlike_line(alloc, stretch),
         Became::UnlikeFrom => {
             format!(in alloc; "differs: memory {memory}, first at address {address}")
@@ -64,7 +64,7 @@ fn became_object(alloc: Global, became: Became, stretch: Stretch) -> Result<Stri
         octets,
     } = stretch;
     let state = match became {
-        Became::Failed(code) => return failed_object(alloc, code, stretch),
+        Became::Failed(notice) => return failed_object(alloc, notice, stretch),
         Became::Open => "open",
         Became::Unlike | Became::UnlikeFrom => "differs",
     };
@@ -73,29 +73,52 @@ fn became_object(alloc: Global, became: Became, stretch: Stretch) -> Result<Stri
     )
 }
 
-// That requests of these octets failed with this code.
-fn failed_line(alloc: Global, code: u16, stretch: Stretch) -> Result<String, AllocError> {
+// That requests of these octets failed with this notice.
+fn failed_line(
+    alloc: Global,
+    notice: FailureNotice,
+    stretch: Stretch,
+) -> Result<String, AllocError> {
     let Stretch {
         memory,
         address,
         octets,
     } = stretch;
-    let (why, word) = (sentence(code), octets_word(octets as usize));
-    format!(in alloc; "failed {code} {why}: memory {memory} from {address} on, {octets} {word}")
+    let word = octets_word(octets as usize);
+    match notice {
+        FailureNotice::Code(code) => {
+            let why = sentence(code);
+            format!(in alloc;
+                "failed {code} {why}: memory {memory} from {address} on, {octets} {word}"
+            )
+        }
+        FailureNotice::Unread => format!(in alloc;
+            "failed, code not read: memory {memory} from {address} on, {octets} {word}"
+        ),
+    }
 }
 
 // The same as an object of JSON.
-fn failed_object(alloc: Global, code: u16, stretch: Stretch) -> Result<String, AllocError> {
+fn failed_object(
+    alloc: Global,
+    notice: FailureNotice,
+    stretch: Stretch,
+) -> Result<String, AllocError> {
     let Stretch {
         memory,
         address,
         octets,
     } = stretch;
-    let why = sentence(code);
-    format!(in alloc;
-        "{{\"state\":\"failed\",\"code\":{code},\"reason\":\"{why}\",\"memory\":{memory},\
-         \"address\":{address},\"octets\":{octets}}}"
-    )
+    let mut text = format!(in alloc; "{{\"state\":\"failed\",")?;
+    match notice {
+        FailureNotice::Code(code) => {
+            let why = sentence(code);
+            text.write(format_args!("\"code\":{code},\"reason\":\"{why}\","))?;
+        }
+        FailureNotice::Unread => text.push_str("\"reason\":\"code not read\",")?,
+    }
+    text.write(format_args!("\"memory\":{memory},\"address\":{address},\"octets\":{octets}}}"))?;
+    Ok(text)
 }
 
 // That a memory has others somewhere among these octets.

@@ -71,6 +71,16 @@ impl Teller {
         }
     }
 
+    /// Tells that a memory has other octets than the job loaded whose file is at this path.
+    pub fn tell_unlike_job(self, rt: &(impl Eprint + AllocGlobal), path: &str) {
+        if !self.json {
+            let text = format!(in rt.alloc();
+                "begin another job: {path} says that all octets were loaded"
+            );
+            tell_text(rt, text);
+        }
+    }
+
     // Tells this in a line of JSON or for a reader.
     fn tell_as_line(self, rt: &(impl Eprint + AllocGlobal), text: Result<String, AllocError>) {
         if self.json {
@@ -188,7 +198,7 @@ fn tell_line(rt: &impl Eprint, text: Result<String, AllocError>) {
 fn open_as(run: &GroundRun) -> Option<Became> {
     match run.outcome {
         Outcome::Done => None,
-        Outcome::Failed(code) => Some(Became::Failed(code)),
+        Outcome::Failed(notice) => Some(Became::Failed(notice)),
         _ => Some(Became::Open),
     }
 }
@@ -251,9 +261,13 @@ fn areas_title(alloc: Global, places: &[Places]) -> Result<String, AllocError> {
     Ok(title)
 }
 
-// What the requests are called that are of these octets.
+// What the requests are called that are of these octets: reads, if some are dumps and some checks.
 fn noun_of(places: &[Places]) -> &'static str {
-    match places.first().map(|one| one.kind) {
+    let kind = places.first().map(|one| one.kind);
+    if places.iter().any(|one| Some(one.kind) != kind) {
+        return "read";
+    }
+    match kind {
         Some(ErrandKind::Load) => "load",
         Some(ErrandKind::Dump) => "dump",
         _ => "check",

@@ -3,6 +3,7 @@
 
 ghost use Rattle.lpt_events.specs.Configs.{IsConfig};
 
+use crate::comparing::{compare_checked, compare_read, write_dumps};
 use crate::errands::{Errand, Places, errand_of, overlap_of};
 use crate::ground_notes::GroundNotes;
 use crate::ground_puts::{Noted, Puts};
@@ -15,12 +16,9 @@ use crate::pieces::{Piece, pieces_of};
 use crate::uplinks::LONGEST_LOAD;
 use lpt_command_line::{GroundWords, Job, SettingWords};
 use lpt_events::Config;
-use lpt_ground::{End, Pass, dumped_octets};
+use lpt_ground::{End, Pass};
 use lpt_ground_run::{PlanFault, carry_pass, carry_uplink};
-use lpt_io::{
-    Failure, Fault, Status, Voice, config_of, first_failure, tell_text, word_refused,
-    write_for_good,
-};
+use lpt_io::{Failure, Fault, Status, Voice, config_of, first_failure, tell_text, word_refused};
 use lpt_text::{Sink, StreamFault};
 use std::fs::File;
 use std::io::Write;
@@ -247,6 +245,7 @@ fn carry_all<T: Wait + Clock + Drop, K: Sink + Drop>(
     errand: &mut Errand,
     out: &mut Noted<K>,
 ) -> Result<Status, Failure> {
+    errand.look_again();
     out.puts.begin(errand.first.requests_asked());
     let ended = match &mut errand.uplink {
         Some(uplink) => carry_uplink(rt.alloc(), uplink, &mut errand.first, ears, out),
@@ -266,26 +265,11 @@ fn carry_all<T: Wait + Clock + Drop, K: Sink + Drop>(
     match words.job {
         Job::Load { .. } => verify_load(rt, ears, words, errand, out),
         Job::Dump => write_dumps(rt, words, errand),
-        Job::Check => Ok(status_of(compare_all(rt, ears.notes().teller(), errand))),
+        Job::Check => {
+            let alike = compare_checked(rt, ears.notes().teller(), errand)?;
+            Ok(status_of(alike))
+        }
     }
-}
-
-// Writes the files of what was dumped.
-fn write_dumps(
-    rt: &HostRuntime,
-    words: &GroundWords<'_>,
-    errand: &Errand,
-) -> Result<Status, Failure> {
-    let mut rest = errand.first.requests_asked();
-    for (places, area) in errand.places.iter().zip(&words.areas) {
-        let (asked, behind) = places.split(rest);
-        let Ok(octets) = dumped_octets(rt.alloc(), asked) else {
-            return Err(Failure::from(Fault::Memory));
-        };
-        write_for_good(rt, area.file, &octets)?;
-        rest = behind;
-    }
-    Ok(Status::Done)
 }
 
 // The status where the octets are as they should be, or aren't.
@@ -293,20 +277,7 @@ fn status_of(alike: bool) -> Status {
     if alike { Status::Done } else { Status::Refused }
 }
 
-// Compares what was checked: whether it is the content.
-fn compare_all(rt: &(impl Eprint + AllocGlobal), teller: Teller, errand: &Errand) -> bool {
-    let mut alike = true;
-    let mut rest = errand.first.requests_asked();
-    for places in &errand.places {
-        let (asked, behind) = places.split(rest);
-        let content = errand.content(places.area);
-        alike = teller.compare_checks(rt, places, asked, content) && alike;
-        rest = behind;
-    }
-    alike
-}
-
-// Dumps what was loaded, if that is asked for, and compares it.
+// Reads what was loaded, if that is asked for or the job goes on, and compares it.
 fn verify_load<T: Wait + Clock + Drop, K: Sink + Drop>(
     rt: &HostRuntime,
     ears: &mut Ears<T>,
@@ -324,28 +295,10 @@ fn verify_load<T: Wait + Clock + Drop, K: Sink + Drop>(
     if !is_done(rt, ears, ended)? {
         return Ok(Status::Refused);
     }
-    compare_dumps(rt, ears.notes().teller(), errand)
-}
-
-// Compares what was dumped with what was loaded.
-fn compare_dumps(
-    rt: &(impl Eprint + AllocGlobal),
-    teller: Teller,
-    errand: &Errand,
-) -> Result<Status, Failure> {
-    let Some((all, second)) = &errand.second else {
-        return Ok(Status::Done);
-    };
-    let mut alike = true;
-    let mut rest = second.requests_asked();
-    for places in all {
-        let (asked, behind) = places.split(rest);
-        let Ok(octets) = dumped_octets(rt.alloc(), asked) else {
-            return Err(Failure::from(Fault::Memory));
-        };
-        let content = errand.content(places.area);
-        alike = teller.compare_octets(rt, places, content, &octets) && alike;
-        rest = behind;
+    let teller = ears.notes().teller();
+    let alike = compare_read(rt, teller, errand)?;
+    if let (false, Some(path)) = (alike, words.kept) {
+        teller.tell_unlike_job(rt, path);
     }
     Ok(status_of(alike))
 }

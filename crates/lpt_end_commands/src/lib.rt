@@ -4,6 +4,7 @@
 //! that `main` is given. The first call is `ground`.
 #![tactic(auto)]
 
+mod comparing;
 mod errands;
 mod ground_charts;
 mod ground_lines;

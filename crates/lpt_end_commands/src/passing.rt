@@ -16,7 +16,7 @@ use lpt_command_line::{Job, OddsWords, PassWords, SettingWords, WordFault};
 use lpt_events::Config;
 use lpt_ground_run::{Asked, Fate};
 use lpt_io::{Failure, Fault, Status, Voice, Watched, config_of, word_refused};
-use lpt_lossy::{Dice, Odds, lossy_stream};
+use lpt_lossy::{Dice, Layouts, LossyLink, Odds, lossy_stream};
 use lpt_text::{FromStd, StreamFault};
 use std::alloc::{AllocError, Global};
 use std::sync::Wait;
@@ -259,10 +259,14 @@ fn carry_link<T: Wait + Drop>(
         damage: words.damage,
         delay: words.delay,
     };
+    let link = LossyLink {
+        layouts: Layouts::own(),
+        most_later: words.delay,
+    };
     let mut dice = Dice::new(odds, words.seed.wrapping_add(way));
     let mut source = FromStd::new(from);
     let mut out = FromStd::new(Watched::new(to));
-    let carried = lossy_stream(rt.alloc(), words.delay, &mut dice, &mut source, &mut out);
+    let carried = lossy_stream(rt.alloc(), &link, &mut dice, &mut source, &mut out);
     drop(source);
     drop(out);
     carried?;

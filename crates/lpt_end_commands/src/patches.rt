@@ -3,6 +3,8 @@
 use crate::outputs::chart_refused;
 use crate::pieces::Piece;
 use crate::same_files::is_same;
+use lpt_ground::overlap;
+use lpt_ground_run::AreaPlace;
 use lpt_io::{Failure, Fault, STANDARD, file_at, read_file, tell_text};
 use lpt_settings::{Reason, Wrong, complain_of_toml, has_only, number, unknown_key};
 use std::alloc::{AllocError, Global};
@@ -144,7 +146,7 @@ fn fault_of<'t>(
         return Some(Why::PastEnd(file));
     }
     for (number, (other, name)) in pieces.iter().zip(files).enumerate() {
-        if overlap(piece, other) {
+        if share_octets(piece, other) {
             return Some(Why::Overlap(file, number, *name));
         }
     }
@@ -156,11 +158,17 @@ fn end_of(piece: &Piece) -> u64 {
     u64::from(piece.address).saturating_add(piece.octets.as_slice().len() as u64)
 }
 
-// Whether two files share an octet of a memory.
-fn overlap(one: &Piece, other: &Piece) -> bool {
-    one.memory == other.memory
-        && u64::from(one.address) < end_of(other)
-        && u64::from(other.address) < end_of(one)
+// Whether two files, which end within the addresses, share an octet of a memory.
+fn share_octets(one: &Piece, other: &Piece) -> bool {
+    one.memory == other.memory && overlap(range_of(one), range_of(other))
+}
+
+// The octets of a file, by their place.
+fn range_of(piece: &Piece) -> AreaPlace {
+    AreaPlace {
+        address: piece.address,
+        len: u32::try_from(piece.octets.as_slice().len()).unwrap_or(u32::MAX),
+    }
 }
 
 // Tells that a list is refused, and where and why.

@@ -3,7 +3,7 @@
 ghost use Rattle.std.specs.Prelude.{◌≡◌, IfErr};
 ghost use Rattle.lpt_events.specs.Configs.{IsConfig};
 
-use crate::joins::{tell, tell_skips, unfit_text, who};
+use crate::joins::{source_of, tell, tell_none, tell_skips, unfit_text, who};
 use lpt_carried::{Name, Reading};
 use lpt_command_line::{JoinWords, Span};
 use lpt_each_files::{Shelf, write_messages};
@@ -14,7 +14,7 @@ use lpt_io::{
 use lpt_layout_each::{CameAs, NewsAs};
 use lpt_layout_join::{PartNumbers, missing_list};
 use lpt_part::Kind;
-use lpt_skips::{Skips, Wanted};
+use lpt_skips::{Skips, Wanted, name_text};
 use lpt_text::StreamFault;
 use std::alloc::{AllocError, Global};
 use std::fs;
@@ -117,11 +117,12 @@ pub fn tell_lost(
     name: Name,
     news: &NewsAs,
 ) -> Result<(), AllocError> {
+    let word = name_text(rt.alloc(), source_of(user, reading), name)?;
     let who = who(rt.alloc(), user, reading, Some(name))?;
     match news {
         NewsAs::Given(_) => Ok(()),
         NewsAs::Dropped(came) | NewsAs::Overtaken(came, _) => {
-            tell(rt, missing_text(rt.alloc(), &who, name, came, from))
+            tell(rt, missing_text(rt.alloc(), &who, &word, came, from))
         }
         NewsAs::Unfit(misfit) => tell(rt, unfit_text(rt.alloc(), &who, *misfit)),
     }
@@ -253,33 +254,31 @@ fn tell_outcome(
         return Ok(Status::Done);
     }
     if !came {
-        let direction = words.reading.direction.word();
-        let text = format!(in rt.alloc(); "{direction}: no part of a message came");
-        tell(rt, text)?;
+        tell_none(rt, &words.reading, skips)?;
     }
     tell_skips(rt, words.user, &wanted, words.span.from, skips)?;
     Ok(Status::Refused)
 }
 
-// Which parts of a message are missing, as a list for `split --each`, and from where on others of
-// it came, where that is known. The only error is out of memory.
+// Which parts of the message of this word are missing, as a list for `split --each`, and from where
+// on others of it came, where that is known. The only error is out of memory.
 fn missing_text(
     alloc: Global,
     who: &str,
-    name: Name,
+    word: &str,
     came: &CameAs,
     from: u64,
 ) -> Result<String, AllocError> {
     let numbers = numbers_of(alloc, came)?;
     let list = missing_list(alloc, &numbers);
     drop(numbers);
-    let (id, list) = (name.id, list?);
+    let list = list?;
     match came.began() {
         Some(began) => {
             let place = began.saturating_add(from);
-            format!(in alloc; "{who}: from octet {place} on, missing parts: {id}:{list}")
+            format!(in alloc; "{who}: from octet {place} on, missing parts: {word}:{list}")
         }
-        None => format!(in alloc; "{who}: missing parts: {id}:{list}"),
+        None => format!(in alloc; "{who}: missing parts: {word}:{list}"),
     }
 }
 

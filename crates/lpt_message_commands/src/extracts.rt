@@ -83,7 +83,8 @@ fn extract_packets<R: Machine>(
     } else {
         None
     };
-    let status = status_of(rt, wanted, joined, finished, &extracted);
+    let tells = voice.tells() || lost;
+    let status = status_of(rt, tells, wanted, joined, finished, &extracted);
     drop(extracted);
     match status {
         Ok(Status::Done) if lost => Ok(Status::Refused),
@@ -92,9 +93,11 @@ fn extract_packets<R: Machine>(
 }
 
 // The status of an extraction that ended so, where its output was finished, and parts were joined
-// that are read so, or none were.
+// that are read so, or none were. What is of another APID is told if it tells of all, or if not all
+// is well.
 fn status_of(
     rt: &(impl Eprint + AllocGlobal),
+    tells: bool,
     wanted: &Wanted,
     joined: Option<Reading>,
     finished: Result<(), Failure>,
@@ -102,7 +105,7 @@ fn status_of(
 ) -> Result<Status, Failure> {
     finished?;
     match extracted {
-        Ok(extracted) => extract_status(rt, wanted, joined, extracted),
+        Ok(extracted) => extract_status(rt, tells, wanted, joined, extracted),
         Err(fault) => Err(Failure::from(*fault)),
     }
 }
@@ -124,9 +127,11 @@ fn place(words: &ExtractWords<'_>) -> Result<Option<ImagePlace>, ()> {
 }
 
 // The status of an extraction that ended so, after it was told why nothing was written, what is
-// missing, which reports weren't read, and what was no packet.
+// missing, which reports weren't read, and what was no packet; and, if it tells of all or not all
+// is well, what is of another APID.
 fn extract_status(
     rt: &(impl Eprint + AllocGlobal),
+    tells: bool,
     wanted: &Wanted,
     joined: Option<Reading>,
     extracted: &Extracted,
@@ -140,7 +145,10 @@ fn extract_status(
         ExtractEnd::Nothing => tell_nothing(rt, wanted, &extracted.tally),
         ExtractEnd::TooLarge(_) => {}
     }
-    tell_others(rt, extracted.tally.apids, "APID");
+    if tells || !extracted.is_clean() {
+        let what = "dump reports or parts of another APID";
+        tell_others(rt, extracted.tally.apids, what);
+    }
     tell_parts(rt, joined, extracted.tally.parts);
     tell_no_packets(rt, "", extracted.tally.damaged, extracted.tally.stray);
     match extracted.end {
@@ -176,16 +184,14 @@ fn tell_gaps(rt: &(impl Eprint + AllocGlobal), wanted: &Wanted, gaps: &BTreeMap<
 // Tells that nothing was written, and which reports were of another memory than what is wanted.
 fn tell_nothing(rt: &(impl Eprint + AllocGlobal), wanted: &Wanted, tally: &Tally) {
     tell_text(rt, nothing_text(rt.alloc(), wanted));
-    tell_others(rt, tally.memories, "memory");
+    tell_others(rt, tally.memories, "dump reports of another memory");
 }
 
-// Tells how many reports were of another memory or APID, and of which the first was.
-fn tell_others(rt: &(impl Eprint + AllocGlobal), others: Others, of: &str) {
+// Tells how many these were, and of which memory or APID the first was.
+fn tell_others(rt: &(impl Eprint + AllocGlobal), others: Others, what: &str) {
     let Others { count, first } = others;
     if let Some(first) = first {
-        let text = format!(in rt.alloc();
-            "dump reports of another {of}: {count}, the first of {first}"
-        );
+        let text = format!(in rt.alloc(); "{what}: {count}, the first of {first}");
         tell_text(rt, text);
     }
 }
@@ -234,11 +240,13 @@ fn tell_unread(rt: &(impl Eprint + AllocGlobal), reading: Reading, count: u64, p
 // Why nothing was written. The only error is out of memory.
 fn nothing_text(alloc: Global, wanted: &Wanted) -> Result<String, AllocError> {
     match wanted.at {
-        None => format!(in alloc; "no area of a dump report came"),
+        None => format!(in alloc; "no whole dump report gave an area"),
         Some(place) => {
             let memory = place.memory;
             let from = place.from;
-            format!(in alloc; "memory {memory}: no octets came for address {from} or later ones")
+            format!(in alloc;
+                "memory {memory}: no whole report gave octets for address {from} or later ones"
+            )
         }
     }
 }

@@ -20,6 +20,8 @@ use std::alloc::{AllocError, Global};
 /// How a message is asked for.
 #[derive(Clone, Copy)]
 pub struct OneWords<'a> {
+    /// What standard error is told beside what is wrong.
+    pub voice: Voice,
     /// The source that is configured.
     pub user: u32,
     /// How parts are read, and which are wanted.
@@ -49,6 +51,7 @@ pub fn join<R: Machine>(
     let span = words.span;
     let mut source = opened_packets(rt, voice, &words.files, span.from, span.to)?;
     let words = OneWords {
+        voice,
         user: u32::from(config.source),
         wanted: wanted_of(config, words),
         any: words.any,
@@ -56,7 +59,7 @@ pub fn join<R: Machine>(
         span,
         files: words.files.as_slice(),
     };
-    let status = join_from(rt, voice, &words, &mut source);
+    let status = join_from(rt, &words, &mut source);
     drop(source);
     status
 }
@@ -86,14 +89,13 @@ fn wanted_of(config: &Config, words: &JoinWords<'_>) -> Wanted
 /// Errors: `Read` if they can't be read, or their capture is wrong; `Write`, `Memory`.
 pub fn join_from<R: Machine>(
     rt: &R,
-    voice: Voice,
     words: &OneWords<'_>,
     source: &mut Packets<R>,
 ) -> Result<Status, Failure> {
     let mut out = output(rt)?;
     let joined = join_as(rt.alloc(), &words.wanted, words.any, source, &mut out);
     let failed = matches!(joined, Err(StreamFault::Read));
-    let failure = packets_end(rt, voice, source, words.files, failed);
+    let failure = packets_end(rt, words.voice, source, words.files, failed);
     let finished = first_failure(finish(rt, out), failure);
     let status = status_of(rt, words, finished, &joined);
     drop(joined);
@@ -174,10 +176,7 @@ fn tell_each(
     let reading = &words.wanted.reading;
     let direction = reading.direction.word();
     if report.gatherings.kept.is_empty() {
-        return tell(
-            rt,
-            format!(in alloc; "{direction}: no part of a message came"),
-        );
+        return tell_none(rt, reading, &report.skips);
     }
     for (name, gathering) in report.gatherings.kept.iter() {
         let end = end_of(alloc, reading, words.any, gathering)?;
@@ -195,6 +194,21 @@ fn tell_each(
     Ok(())
 }
 
+/// Says that no part of a message came. If some came that aren't read, it says nothing: what was
+/// passed over tells of those. The only error is out of memory.
+pub fn tell_none(
+    rt: &(impl Eprint + AllocGlobal),
+    reading: &Reading,
+    skips: &Skips,
+) -> Result<(), AllocError> {
+    if skips.unread != 0 || skips.zeros != 0 {
+        return Ok(());
+    }
+    let direction = reading.direction.word();
+    let text = format!(in rt.alloc(); "{direction}: no part of a message came");
+    tell(rt, text)
+}
+
 // Says how the join of a transaction ended of which this is kept, where not all of it is well, and
 // gives the status of that. The only error is out of memory.
 fn tell_end(
@@ -207,7 +221,7 @@ fn tell_end(
     let alloc = rt.alloc();
     let reading = &words.wanted.reading;
     let who = who(alloc, words.user, reading, Some(name))?;
-    let against = tell_size(rt, reading, &who, gathering)?;
+    let against = tell_size(rt, words, &who, gathering)?;
     match end {
         JoinEnd::Written(_) if words.first => return Ok(Status::Done),
         JoinEnd::Written(_) if against.is_none() => return Ok(Status::Done),
@@ -236,18 +250,20 @@ fn foreign(alloc: Global, place: u64) -> Result<String, AllocError> {
     format!(in alloc; "parts of another message of this name come from octet {place} on")
 }
 
-// Says the part size of a transaction, where that isn't known before, and gives the place of the
-// first part that contradicts those before it. The only error is out of memory.
+// Says the part size of a transaction, where that isn't known before and more is told than what is
+// wrong, and gives the place of the first part that contradicts those before it. The only error is
+// out of memory.
 fn tell_size(
     rt: &(impl Eprint + AllocGlobal),
-    reading: &Reading,
+    words: &OneWords<'_>,
     who: &str,
     gathering: Option<&Gathering>,
 ) -> Result<Option<u64>, AllocError> {
     let Some(gathering) = gathering else {
         return Ok(None);
     };
-    if let (None, Some(size)) = (reading.part_size, gathering.came.size()) {
+    let given = words.wanted.reading.part_size;
+    if let (true, None, Some(size)) = (words.voice.tells(), given, gathering.came.size()) {
         let octets = octets_word(size);
         tell(
             rt,
@@ -274,8 +290,8 @@ pub fn who(
     }
 }
 
-// The source that is meant where none is said: 0 where the layout has no field for it.
-fn source_of(source: u32, reading: &Reading) -> u32 {
+/// The source that is meant if none is said: 0 if the layout has no field for it.
+pub fn source_of(source: u32, reading: &Reading) -> u32 {
     match reading.layout.user {
         Width::Absent => 0,
         _ => source,

@@ -47,6 +47,7 @@ pub fn join<R: Machine>(
         }
         None => {
             let one = OneWords {
+                voice,
                 user,
                 wanted: Wanted { reading, name },
                 any: words.any,
@@ -54,7 +55,7 @@ pub fn join<R: Machine>(
                 span,
                 files: words.files.as_slice(),
             };
-            join_from(rt, voice, &one, &mut source)
+            join_from(rt, &one, &mut source)
         }
     };
     drop(source);

@@ -10,6 +10,7 @@ use lpt_io::{
     Failure, Fault, Incoming, Machine, Status, finish, first_failure, open_input, output,
     own_or_read, read_failure, tell_place, word_refused,
 };
+use lpt_layout::Width;
 use lpt_packet::Direction;
 use lpt_split::{SplitEnd, greatest};
 use lpt_split_each::{EachEnd, EachSplit, EachWanted, Pick, split_each};
@@ -32,7 +33,7 @@ pub fn split_all<R: Machine>(
         return Ok(Status::Unreadable);
     };
     let tailored = layouts.tailored_in(words.split.direction);
-    let name = match names_in(words, tailored) {
+    let name = match names_in(config, words, tailored) {
         Ok(name) => name,
         Err(fault) => return Ok(word_refused(rt, rt.alloc(), &fault)),
     };
@@ -47,16 +48,21 @@ pub fn split_all<R: Machine>(
 }
 
 // The name of the first that the words give, where the layout has room for it and for those that are
-// chosen.
+// chosen, and these have its source.
 //
-// Errors: `Id`, `Pick`.
+// Errors: `Id`, `Pick`, `PickSource`.
 fn names_in<'a>(
+    config: &Config,
     words: &SplitEachWords<'a>,
     tailored: &Tailored,
 ) -> Result<WideName, WordFault<'a>> {
     let name = name_in(&words.split, tailored)?;
     for pick in &words.picks {
         pick.check(greatest(tailored.parts.id))?;
+        match tailored.packets.user {
+            Width::Absent => {}
+            _ => pick.check_source(name.source.unwrap_or(u32::from(config.source)))?,
+        }
     }
     Ok(name)
 }

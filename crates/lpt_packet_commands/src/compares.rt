@@ -5,19 +5,19 @@ ghost use Rattle.lpt_events.specs.Configs.{IsConfig};
 use crate::layouts::own_or_given;
 use lpt_carried::Layout;
 use lpt_command_line::CompareWords;
-use lpt_compare::{Checked, Checks, Image, read_checks};
+use lpt_compare::{Checked, Checks, Image, Others, read_checks};
 use lpt_events::Config;
 use lpt_io::{
     Failure, Machine, Output, Status, Voice, file_at, finish, name_of, opened_packets, output,
-    packets_end, tell_no_packets, tell_text,
+    packets_end, status_of, tell_no_packets, tell_text,
 };
 use lpt_text::{StreamFault, write_out};
 use std::alloc::{AllocError, Global};
 
 /// Writes a line for each area of the check reports: whether its checksum is that of the file's
 /// octets there. What is no packet, check reports that can't be read, and parts of messages are
-/// told, and the status says so. The reports are read by the layouts of a file if one is given,
-/// else by the profile.
+/// told, and the status says so. Check reports and parts of another APID are just told. The
+/// reports are read by the layouts of a file if one is given, else by the profile.
 ///
 /// Errors: `Read` if a file can't be opened or read, or a capture is wrong; `Config` if the
 /// layouts' file is too long; `Write`, `Memory`.
@@ -34,7 +34,7 @@ pub fn compare<R: Machine>(
     };
     let octets = file_at(rt, words.file)?;
     let checks = checks_at(rt, voice, &layouts.telemetry.packets, config.apid, words)?;
-    let status = tell_checks(rt, words, octets.as_slice(), checks);
+    let status = tell_checks(rt, voice, words, octets.as_slice(), checks);
     drop(octets);
     status
 }
@@ -66,6 +66,7 @@ fn checks_at<R: Machine>(
 // Writes the lines, and gives whether all is as it should be.
 fn tell_checks(
     rt: &(impl Print + Eprint + AllocGlobal),
+    voice: Voice,
     words: &CompareWords<'_>,
     octets: &[u8],
     checks: Checks,
@@ -76,6 +77,7 @@ fn tell_checks(
         stray,
         unread,
         parts,
+        others,
     } = checks;
     let image = Image {
         from: words.address,
@@ -85,18 +87,29 @@ fn tell_checks(
     let written = write_lines(rt.alloc(), words.memory, &image, &areas, &mut out);
     finish(rt, out)?;
     let agree = written?;
+    let open = image.first_open(areas);
+    let sound = damaged == 0 && stray == 0 && unread == 0 && parts == 0;
+    let is_done = agree && sound && open.is_none() && !octets.is_empty();
     tell_no_packets(rt, "", damaged, stray);
     tell_passed(rt, unread, parts);
-    let open = image.first_open(areas);
+    if voice.tells() || !is_done {
+        tell_others(rt, others);
+    }
     if let Some(text) = lacking(rt.alloc(), words, octets, open) {
         tell_text(rt, text);
     }
-    let sound = damaged == 0 && stray == 0 && unread == 0 && parts == 0;
-    Ok(if agree && sound && open.is_none() && !octets.is_empty() {
-        Status::Done
-    } else {
-        Status::Refused
-    })
+    Ok(status_of(!is_done))
+}
+
+// Tells how many check reports and parts are of another APID, and of which the first is.
+fn tell_others(rt: &(impl Eprint + AllocGlobal), others: Others) {
+    let Others { count, first } = others;
+    if let Some(first) = first {
+        let text = format!(in rt.alloc();
+            "check reports or parts of another APID: {count}, the first of {first}"
+        );
+        tell_text(rt, text);
+    }
 }
 
 // Tells how many check reports can't be read, and how many parts of messages there are.

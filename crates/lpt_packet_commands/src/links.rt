@@ -1,21 +1,27 @@
 //! Packets carried over a link that loses, from files or standard input to standard output.
 
+use crate::layouts::own_or_given;
+use lpt_carried::Layouts;
 use lpt_command_line::LinkWords;
 use lpt_io::{
     Failure, Machine, Packets, Status, Voice, finish, first_failure, opened_packets, output,
     packets_end, tell_text,
 };
-use lpt_lossy::{CrossingCounts, Dice, LossyEnd, Odds, lossy_stream};
+use lpt_lossy::{CrossingCounts, Dice, LossyEnd, LossyLink, Odds, lossy_stream};
 use lpt_text::StreamFault;
 
-/// Carries packets over a link that loses, and tells how many were lost, repeated and so on.
+/// Carries packets over a link that loses, and tells how many were lost, repeated and so on. Which
+/// packets have a checksum says a file of layouts if one is given, else the profile.
 ///
-/// Errors: `Read` if the packets can't be opened or read, or their capture is wrong; `Write`,
-/// `Memory`.
+/// Errors: `Read` if a file can't be opened or read, or a capture is wrong; `Config` if the
+/// layouts' file is too long; `Write`, `Memory`.
 pub fn link<R: Machine>(rt: &R, voice: Voice, words: &LinkWords<'_>) -> Result<Status, Failure> {
     let voice = voice.beside_output();
+    let Some(layouts) = own_or_given(rt, words.layout)? else {
+        return Ok(Status::Unreadable);
+    };
     let mut source = opened_packets(rt, voice, &words.files, None, None)?;
-    let status = carry_packets(rt, voice, words, &mut source);
+    let status = carry_packets(rt, voice, &layouts, words, &mut source);
     drop(source);
     status
 }
@@ -24,6 +30,7 @@ pub fn link<R: Machine>(rt: &R, voice: Voice, words: &LinkWords<'_>) -> Result<S
 fn carry_packets<R: Machine>(
     rt: &R,
     voice: Voice,
+    layouts: &Layouts,
     words: &LinkWords<'_>,
     source: &mut Packets<R>,
 ) -> Result<Status, Failure> {
@@ -33,9 +40,13 @@ fn carry_packets<R: Machine>(
         damage: words.odds.damage,
         delay: words.odds.delay,
     };
+    let link = LossyLink {
+        layouts: *layouts,
+        most_later: words.odds.delay,
+    };
     let mut dice = Dice::new(odds, words.odds.seed);
     let mut out = output(rt)?;
-    let carried = lossy_stream(rt.alloc(), words.odds.delay, &mut dice, source, &mut out);
+    let carried = lossy_stream(rt.alloc(), &link, &mut dice, source, &mut out);
     drop(dice);
     let failed = matches!(carried, Err(StreamFault::Read));
     let failure = packets_end(rt, voice, source, &words.files, failed);

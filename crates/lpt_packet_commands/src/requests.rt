@@ -1,22 +1,30 @@
 //! Requests to a memory, written to standard output.
 
+ghost use Rattle.std.specs.Prelude.{◌<◌};
 ghost use Rattle.lpt_events.specs.Configs.{IsConfig};
 
-use lpt_command_line::{RequestWords, What};
+use crate::layouts::own_or_given;
+use lpt_carried::Layouts;
+use lpt_command_line::{RequestWords, What, WordFault};
 use lpt_events::Config;
-use lpt_io::{Failure, Fault, Machine, Status, file_at, finish, output, tell_place};
-use lpt_memory::{AREA_HEADER, AREA_LIMIT, Area, MemoryFault, load_fault};
+use lpt_io::{Failure, Fault, Machine, Status, file_at, finish, output, tell_place, word_refused};
+use lpt_layout::{LayoutFault, Width};
+use lpt_layout_requests::{RequestFault, dump_limit, load_limit, write_requests_as};
+use lpt_memory::{AREA_HEADER, AREA_LIMIT, Area, MemoryFault};
 use lpt_packet::Octets;
 use lpt_requests::{
-    AreaPlace, CHECK_LIMIT, CutFault, DUMP_LIMIT, Range, Read, Request, areas_fault, load_requests,
-    places_fault, read_requests, write_requests,
+    AreaPlace, CHECK_LIMIT, CutFault, Range, Read, Request, areas_fault, load_requests,
+    places_fault, read_requests,
 };
+use lpt_split::greatest;
 use lpt_text::write_out;
 use std::alloc::{AllocError, Global};
 
-/// Writes what is asked of a memory as telecommands, one behind the other: as many as it needs.
+/// Writes what is asked of a memory as telecommands, one behind the other, as many as it needs: by
+/// the layouts of a file if one is given, else by the profile.
 ///
-/// Errors: `Read` if a file can't be opened or read; `Write`, `Memory`.
+/// Errors: `Read` if a file can't be opened or read; `Config` if the layouts' file is too long;
+/// `Write`, `Memory`.
 pub fn request<R: Machine>(
     rt: &R,
     config: &Config,
@@ -24,7 +32,14 @@ pub fn request<R: Machine>(
 ) -> Result<Status, Failure>
     requires { IsConfig config.now }
 {
-    let requests = match requests_asked(rt, words)? {
+    let Some(layouts) = own_or_given(rt, words.layout)? else {
+        return Ok(Status::Unreadable);
+    };
+    let limit = limit_of(&words.what, &layouts);
+    if let Some(fault) = word_fault(config, words, &layouts, limit) {
+        return Ok(word_refused(rt, rt.alloc(), &fault));
+    }
+    let requests = match requests_asked(rt, words, words.each.min(limit))? {
         Ok(requests) => requests,
         Err(CutFault::Memory) => return Err(Failure::from(Fault::Memory)),
         Err(CutFault::Empty) => return Ok(refuse_request(
@@ -35,19 +50,62 @@ pub fn request<R: Machine>(
             return Ok(refuse_request(rt, "an area ends after the last address, 4294967295"));
         }
     };
-    let (apid, source) = (config.apid, config.source);
+    let layout = &layouts.telecommands.packets;
+    let (apid, source) = (config.apid, u32::from(config.source));
     let (count, flags) = (words.count, words.flags);
-    let written = write_requests(rt.alloc(), apid, source, count, flags, &requests);
+    let written = write_requests_as(rt.alloc(), layout, apid, source, count, flags, &requests);
     drop(requests);
     match written {
         Ok(packets) => put(rt, &packets),
-        Err(MemoryFault::TooLong) => Ok(refuse_request(
-            rt,
-            "a packet has no more than 65542 octets",
-        )),
-        Err(MemoryFault::Memory) => Err(Failure::from(Fault::Memory)),
-        Err(_) => Ok(refuse_request(rt, "a request has 1 to 255 areas, none of them empty")),
+        Err(fault) => unwritten(rt, fault),
     }
+}
+
+// How many octets of an area one request of this holds at most, by these layouts.
+fn limit_of(what: &What<'_>, layouts: &Layouts) -> u16
+    ensures { 0 < result }
+{
+    match what {
+        What::Load(_) => load_limit(&layouts.telecommands.packets),
+        What::Dump(_) => dump_limit(&layouts.telemetry.packets),
+        What::Check(_) => CHECK_LIMIT,
+    }
+}
+
+// What is wrong with the words by these layouts, where a request holds so many octets.
+fn word_fault(
+    config: &Config,
+    words: &RequestWords<'_>,
+    layouts: &Layouts,
+    limit: u16,
+) -> Option<WordFault<'static>> {
+    let (each, source) = (words.each, config.source);
+    if words.cut && each > limit {
+        return Some(WordFault::Each { each, limit });
+    }
+    let most = match layouts.telecommands.packets.user {
+        Width::Absent => u32::MAX,
+        width => greatest(width),
+    };
+    if u32::from(source) > most {
+        return Some(WordFault::Source { source, most });
+    }
+    None
+}
+
+// The status of requests that aren't written, after standard error was told why.
+fn unwritten(rt: &impl Eprint, fault: RequestFault) -> Result<Status, Failure> {
+    let why = match fault {
+        RequestFault::OfRequest(MemoryFault::Memory)
+        | RequestFault::OfLayout(LayoutFault::Memory) => {
+            return Err(Failure::from(Fault::Memory));
+        }
+        RequestFault::OfRequest(MemoryFault::TooLong)
+        | RequestFault::OfLayout(LayoutFault::TooLong) => "a packet has no more than 65542 octets",
+        RequestFault::OfRequest(_) => "a request has 1 to 255 areas, none of them empty",
+        RequestFault::OfLayout(LayoutFault::Unfit) => "the source doesn't fit the layout",
+    };
+    Ok(refuse_request(rt, why))
 }
 
 // Says on standard error why a request isn't written.
@@ -73,25 +131,29 @@ fn put(rt: &(impl Print + AllocGlobal), packets: &[Octets]) -> Result<Status, Fa
     }
 }
 
-// The requests for what the words ask of the memory, with the octets of the files that they name.
+// The requests for what the words ask of the memory, with the octets of the files that they name:
+// for so many octets of an area at most.
 fn requests_asked<R: Machine>(
     rt: &R,
     words: &RequestWords<'_>,
-) -> Result<Result<Vec<Request>, CutFault>, Failure> {
+    each: u16,
+) -> Result<Result<Vec<Request>, CutFault>, Failure>
+    requires { 0 < each }
+{
     let alloc = rt.alloc();
     match &words.what {
         What::Load(files) => {
             let mut areas = Vec::new(alloc);
             match read_areas(rt, files, &mut areas) {
-                Ok(()) => Ok(loads(alloc, words, areas)),
+                Ok(()) => Ok(loads(alloc, words, each, areas)),
                 Err(failure) => {
                     drop(areas);
                     Err(failure)
                 }
             }
         }
-        What::Dump(places) => Ok(reads(alloc, words, Read::Dump, places)),
-        What::Check(places) => Ok(reads(alloc, words, Read::Check, places)),
+        What::Dump(places) => Ok(reads(alloc, words, each, Read::Dump, places)),
+        What::Check(places) => Ok(reads(alloc, words, each, Read::Check, places)),
     }
 }
 
@@ -100,16 +162,19 @@ fn requests_asked<R: Machine>(
 fn loads(
     alloc: Global,
     words: &RequestWords<'_>,
+    each: u16,
     areas: Vec<Area>,
-) -> Result<Vec<Request>, CutFault> {
+) -> Result<Vec<Request>, CutFault>
+    requires { 0 < each }
+{
     let memory = words.memory;
     if let Some(fault) = areas_fault(&areas) {
         return Err(fault);
     }
-    if !words.cut && load_fault(&areas).is_none() {
+    if !words.cut && is_one_load(each, &areas) {
         return Ok(one(alloc, Request::Load(memory, areas))?);
     }
-    load_requests(alloc, memory, &areas, words.each)
+    load_requests(alloc, memory, &areas, each)
 }
 
 // One request of all places, where one holds them and no other number of octets is given; else
@@ -117,16 +182,19 @@ fn loads(
 fn reads(
     alloc: Global,
     words: &RequestWords<'_>,
+    each: u16,
     what: Read,
     places: &[(u32, u32)],
-) -> Result<Vec<Request>, CutFault> {
+) -> Result<Vec<Request>, CutFault>
+    requires { 0 < each }
+{
     let memory = words.memory;
     let places = places_of(alloc, places)?;
     if let Some(fault) = places_fault(&places) {
         return Err(fault);
     }
-    if words.cut || !is_one_request(what, &places) {
-        return read_requests(alloc, what, memory, &places, words.each);
+    if words.cut || !is_one_read(each, what, &places) {
+        return read_requests(alloc, what, memory, &places, each);
     }
     let ranges = ranges_of(alloc, &places)?;
     let request = match what {
@@ -143,23 +211,44 @@ fn one(alloc: Global, request: Request) -> Result<Vec<Request>, AllocError> {
     Ok(requests)
 }
 
-// Whether one request holds these places, and one packet the answer.
-fn is_one_request(what: Read, places: &[AreaPlace]) -> bool {
-    let mut room = u64::from(DUMP_LIMIT) + AREA_HEADER as u64;
+// Whether one load holds these areas, where it holds so many octets of one area.
+fn is_one_load(each: u16, areas: &[Area]) -> bool {
+    let mut room = room_of(each);
+    for area in areas {
+        let Some(left) = room_behind(room, area.octets.as_slice().len() as u64) else {
+            return false;
+        };
+        room = left;
+    }
+    areas.len() <= AREA_LIMIT
+}
+
+// Whether one request holds these places, and one packet the answer, where it holds so many octets
+// of one place.
+fn is_one_read(each: u16, what: Read, places: &[AreaPlace]) -> bool {
+    let mut room = room_of(each);
     for place in places {
         if place.len > u32::from(CHECK_LIMIT) {
             return false;
         }
-        let taken = match what {
-            Read::Dump => u64::from(place.len) + AREA_HEADER as u64,
-            Read::Check => 0,
-        };
-        if taken > room {
-            return false;
+        if what == Read::Dump {
+            let Some(left) = room_behind(room, u64::from(place.len)) else {
+                return false;
+            };
+            room = left;
         }
-        room -= taken;
     }
     places.len() <= AREA_LIMIT
+}
+
+// The room for areas, where it is for so many octets of one area.
+fn room_of(each: u16) -> u64 {
+    u64::from(each) + AREA_HEADER as u64
+}
+
+// What is left of this room behind an area of so many octets, where it has room for it.
+fn room_behind(room: u64, octets: u64) -> Option<u64> {
+    room.checked_sub(octets)?.checked_sub(AREA_HEADER as u64)
 }
 
 // These places, of as many octets as a range has at most. The only error is out of memory.

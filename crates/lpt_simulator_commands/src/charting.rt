@@ -9,8 +9,9 @@ use lpt_io::{Failure, Machine, Status, settings_of, tell_place, write_all_out};
 use lpt_tool::ToolFault;
 
 /// Runs a script on a new world, the one at this path or standard input for `-`, and writes the
-/// picture of what happened. The world is that of the configuration that the words give. Standard
-/// error is told if the run has fewer events than the choice of rows begins at.
+/// picture of what happened. The world is that of the configuration that the words give. If the run
+/// has fewer events than the choice of rows begins at, standard error is told so, and the status is
+/// `Refused`.
 ///
 /// Errors: `Config` if the configuration is refused; `Line` at an unreadable line, after
 /// standard error was told why it is, `Read` if the script can't be opened or read: then the
@@ -66,18 +67,21 @@ fn tell_run<R: Machine>(
     };
     drop(picture);
     written?;
-    tell_short(rt, words, events);
-    status_at_end(rt, source, words.script, ran)
+    let is_short = tell_short(rt, words, events);
+    match status_at_end(rt, source, words.script, ran) {
+        Ok(Status::Done) if is_short => Ok(Status::Refused),
+        status => status,
+    }
 }
 
-// Says on standard error that a choice begins behind a run of so many events. A line that was
-// refused behind the last of them has their count for its place.
-fn tell_short(rt: &(impl Eprint + AllocGlobal), words: &ChartWords<'_>, events: u64) {
+// Whether a choice begins behind a run of so many events, after standard error was told so. A line
+// that was refused behind the last of them has their count for its place.
+fn tell_short(rt: &(impl Eprint + AllocGlobal), words: &ChartWords<'_>, events: u64) -> bool {
     let Some(from) = words.from else {
-        return;
+        return false;
     };
     if from < events || (words.refused && from == events) {
-        return;
+        return false;
     }
     let text = match events.checked_sub(1) {
         Some(last) => format!(in rt.alloc(); "--from {from}: the run's events are 0 to {last}"),
@@ -86,4 +90,5 @@ fn tell_short(rt: &(impl Eprint + AllocGlobal), words: &ChartWords<'_>, events: 
     if let Ok(text) = text {
         tell_place(rt, text.as_str());
     }
+    true
 }

@@ -1,0 +1,90 @@
+//! What was heard of memories, compared with what they should have, or written.
+
+use crate::errands::{Errand, ErrandKind, Places};
+use crate::ground_told::Teller;
+use lpt_command_line::GroundWords;
+use lpt_ground::dumped_octets;
+use lpt_ground_run::Asked;
+use lpt_io::{Failure, Fault, Status, write_for_good};
+
+/// Writes the files of what was dumped.
+///
+/// Errors: `Write`; `Memory`.
+pub fn write_dumps(
+    rt: &HostRuntime,
+    words: &GroundWords<'_>,
+    errand: &Errand,
+) -> Result<Status, Failure> {
+    let mut rest = errand.first.requests_asked();
+    for (places, area) in errand.places.iter().zip(&words.areas) {
+        let (asked, behind) = places.split(rest);
+        let Ok(octets) = dumped_octets(rt.alloc(), asked) else {
+            return Err(Failure::from(Fault::Memory));
+        };
+        write_for_good(rt, area.file, &octets)?;
+        rest = behind;
+    }
+    Ok(Status::Done)
+}
+
+/// Compares what the first pass checked with the content: whether it is that.
+pub fn compare_checked(
+    rt: &(impl Eprint + AllocGlobal),
+    teller: Teller,
+    errand: &Errand,
+) -> Result<bool, Failure> {
+    let asked = errand.first.requests_asked();
+    compare_all(rt, teller, errand, &errand.places, asked)
+}
+
+/// Compares what was read behind loads with what was loaded: whether it is that.
+///
+/// Errors: `Memory`.
+pub fn compare_read(
+    rt: &(impl Eprint + AllocGlobal),
+    teller: Teller,
+    errand: &Errand,
+) -> Result<bool, Failure> {
+    match &errand.second {
+        None => Ok(true),
+        Some((places, second)) => {
+            compare_all(rt, teller, errand, places, second.requests_asked())
+        }
+    }
+}
+
+// Compares what these requests, which are of these octets, got with the content.
+fn compare_all(
+    rt: &(impl Eprint + AllocGlobal),
+    teller: Teller,
+    errand: &Errand,
+    all: &[Places],
+    asked: &[Asked],
+) -> Result<bool, Failure> {
+    let mut alike = true;
+    let mut rest = asked;
+    for places in all {
+        let (asked, behind) = places.split(rest);
+        let content = errand.content(places.area);
+        alike = compare(rt, teller, places, asked, content)? && alike;
+        rest = behind;
+    }
+    Ok(alike)
+}
+
+// Compares what these requests got of an area with its content.
+fn compare(
+    rt: &(impl Eprint + AllocGlobal),
+    teller: Teller,
+    places: &Places,
+    asked: &[Asked],
+    content: &[u8],
+) -> Result<bool, Failure> {
+    if matches!(places.kind, ErrandKind::Check) {
+        return Ok(teller.compare_checks(rt, places, asked, content));
+    }
+    match dumped_octets(rt.alloc(), asked) {
+        Ok(octets) => Ok(teller.compare_octets(rt, places, content, &octets)),
+        Err(_) => Err(Failure::from(Fault::Memory)),
+    }
+}
