@@ -31,7 +31,8 @@ const PLACES: Word = Word {
     name: "PLACE",
     value: TEXT,
     need: Need::Several(&["ADDRESS", "LENGTH"]),
-    help: "Addresses, each followed by a number of octets, 1 to 4294967295 or 0xffffffff",
+    help: "Addresses, each followed by how many octets, 1 to 4294967295; numbers as 16384 or \
+           0x4000",
 };
 
 const EACH: NamedRow = NamedRow {
@@ -40,7 +41,7 @@ const EACH: NamedRow = NamedRow {
     behind: &["N"],
     action: ArgAction::Set,
     other: &[],
-    help: "At most so many octets in a request; as many as fit if not given",
+    help: "At most N octets in a request; as many as fit if not given",
 };
 
 const ACK: NamedRow = NamedRow {
@@ -49,7 +50,7 @@ const ACK: NamedRow = NamedRow {
     behind: &["N"],
     action: ArgAction::Set,
     other: &["0"],
-    help: "Acknowledgement flags, 0 to 15: 1 acceptance, 2 start, 8 completion, or a sum",
+    help: "Acknowledgement flags, 0 to 15, a sum: 1 acceptance, 2 start, 4 progress, 8 completion",
 };
 
 /// `verify`.
@@ -61,7 +62,7 @@ pub(crate) static VERIFY: CommandRow = CommandRow {
             name: "REQUESTS",
             value: TEXT,
             need: Need::One,
-            help: "The requests, before split cut them, or - for standard input",
+            help: "The requests themselves, not what split wrote; - for standard input",
         },
         REPORTS,
     ],
@@ -73,7 +74,7 @@ pub(crate) static VERIFY: CommandRow = CommandRow {
             behind: &[],
             action: ArgAction::SetTrue,
             other: &[],
-            help: "Write the packets of requests without a final report, in place of the list",
+            help: "Write the packets of requests that no report settles, in place of the list",
         },
         LAYOUT,
         QUIET,

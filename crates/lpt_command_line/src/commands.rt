@@ -158,7 +158,7 @@ pub(crate) static CHART: CommandRow = CommandRow {
             help: "Draw refused lines too; not with --stream",
         },
         NamedRow {
-            help: "A TOML file with the mission's layouts of the packets, with --stream",
+            help: "A TOML file with the mission's layouts of headers and parts; only with --stream",
             ..LAYOUT
         },
     ],
@@ -237,7 +237,7 @@ pub(crate) static SPLIT: CommandRow = CommandRow {
             behind: &[],
             action: ArgAction::SetTrue,
             other: &[],
-            help: "Split each packet of the file; the IDs count up from this one",
+            help: "Split each packet of the file as a message; the IDs count up from ID",
         },
         NamedRow {
             name: "whole",
@@ -280,7 +280,8 @@ pub(crate) static JOIN: CommandRow = CommandRow {
             behind: &[],
             action: ArgAction::SetTrue,
             other: &[],
-            help: "Write the first message under its name, even if others come after it",
+            help: "Write the first message under its name, even if others of that name come after \
+                   it",
         },
         NamedRow {
             name: "any",

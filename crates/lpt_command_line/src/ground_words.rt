@@ -34,7 +34,7 @@ pub struct GroundWords<'a> {
     pub tries: u32,
     /// Where requests are written, if it isn't standard output.
     pub up: Option<&'a str>,
-    /// The file in which it is kept what is settled.
+    /// The file in which it is kept what is completed.
     pub kept: Option<&'a str>,
     /// Where the picture of the pass is written, if one is drawn.
     pub chart: Option<&'a str>,

@@ -13,7 +13,7 @@ const FILE: Word = Word {
     name: "FILE",
     value: TEXT,
     need: Need::One,
-    help: "The octets' path",
+    help: "The path of the octets' file",
 };
 
 const LIST: Word = Word {
@@ -27,7 +27,7 @@ const LENGTH: Word = Word {
     name: "LENGTH",
     value: TEXT,
     need: Need::One,
-    help: "How many octets, 1 to 4294967295 or 0xffffffff",
+    help: "How many octets, 1 to 4294967295, as 16384 or 0x4000",
 };
 
 const WAIT: NamedRow = NamedRow {
@@ -36,8 +36,8 @@ const WAIT: NamedRow = NamedRow {
     behind: &["MS"],
     action: ArgAction::Set,
     other: &["1000"],
-    help: "Send again what is open if nothing came for so long: more than a round trip, and than \
-           a round takes on board",
+    help: "Send open requests again if nothing came for MS milliseconds: more than a round trip, \
+           and than the spacecraft needs for a round",
 };
 
 const SHORT_WAIT: NamedRow = NamedRow {
@@ -51,13 +51,13 @@ const TRIES: NamedRow = NamedRow {
     behind: &["N"],
     action: ArgAction::Set,
     other: &["10"],
-    help: "Give up after so many waits in a row that settled nothing",
+    help: "Give up after N waits in a row that settled nothing",
 };
 
 const LOAD_TRIES: NamedRow = NamedRow {
     other: &[],
-    help: "Give up after so many waits in a row that settled nothing \
-           [default: 10; with --large as many as it has rounds]",
+    help: "Give up after N waits in a row that settled nothing \
+           [default: 10; if --large sends parts, as many as it has rounds]",
     ..TRIES
 };
 
@@ -67,7 +67,8 @@ const LARGE: NamedRow = NamedRow {
     behind: &[],
     action: ArgAction::SetTrue,
     other: &[],
-    help: "Load the file in one step, all or nothing: by one request, as a large message",
+    help: "Load the file in one step, all or nothing: by one request, in parts if it is long; \
+           not with --area or --job",
 };
 
 const NAME: NamedRow = NamedRow {
@@ -76,7 +77,7 @@ const NAME: NamedRow = NamedRow {
     behind: &["ID"],
     action: ArgAction::Set,
     other: &[],
-    help: "The transaction ID under which a large message goes first [default: 0]",
+    help: "With --large: the transaction ID under which the parts go first [default: 0]",
 };
 
 const NAMES: NamedRow = NamedRow {
@@ -85,7 +86,8 @@ const NAMES: NamedRow = NamedRow {
     behind: &["N"],
     action: ArgAction::Set,
     other: &[],
-    help: "Give a large message up after so many IDs, which get 4 waits, 8, 12 and so on [default: 6]",
+    help: "With --large: give up after N IDs; the parts go under the first for 4 rounds, then for \
+           8, 12 and so on [default: 6]",
 };
 
 const UP: NamedRow = NamedRow {
@@ -103,7 +105,7 @@ const JOB: NamedRow = NamedRow {
     behind: &["FILE"],
     action: ArgAction::Set,
     other: &[],
-    help: "Keep what is settled in this file, so that the same command goes on from it",
+    help: "Keep in this file what is completed, so that the same command goes on from it",
 };
 
 const CHART: NamedRow = NamedRow {
@@ -112,7 +114,7 @@ const CHART: NamedRow = NamedRow {
     behind: &["FILE"],
     action: ArgAction::Set,
     other: &[],
-    help: "Draw what was sent and settled in each round into this file, as SVG",
+    help: "Draw into this file, as SVG, what was sent and settled in each round",
 };
 
 const PASSES: NamedRow = NamedRow {
@@ -121,7 +123,7 @@ const PASSES: NamedRow = NamedRow {
     behind: &["FILE"],
     action: ArgAction::Set,
     other: &[],
-    help: "Take the source after the one in this file, and write it there, in place of --source",
+    help: "Take the source after the one in this file, and write it there; in place of --source",
 };
 
 const AREA: NamedRow = NamedRow {

@@ -48,7 +48,7 @@ pub(crate) const SEED: NamedRow = NamedRow {
     behind: &["S"],
     action: ArgAction::Set,
     other: &["0"],
-    help: "The random seed; the same seed gives the same run",
+    help: "The random seed; the same seed, options and packets give the same output",
 };
 
 pub(crate) const MEMORY: NamedRow = NamedRow {
@@ -84,13 +84,14 @@ pub(crate) const RESYNC: NamedRow = NamedRow {
     behind: &[],
     action: ArgAction::SetTrue,
     other: &[],
-    help: "Go on after octets that are no packet; may take a packet within a message",
+    help: "Go on after octets that are no packet; may take a packet inside a message for one that \
+           was sent",
 };
 
 /// `link`.
 pub(crate) static LINK: CommandRow = CommandRow {
     name: "link",
-    about: "Lose, repeat, delay and damage packets, as a link does",
+    about: "Lose, repeat, delay and damage packets, as a bad link does",
     words: &[PACKETS],
     named: &[LOSE, REPEAT, DAMAGE, DELAY, SEED, LAYOUT, QUIET],
     configured: Configured::No,
@@ -118,7 +119,8 @@ pub(crate) static SPACECRAFT: CommandRow = CommandRow {
             behind: &["MS"],
             action: ArgAction::Set,
             other: &[],
-            help: "Tick every MS milliseconds of the machine's clock, also while nothing comes",
+            help: "Move the clock on by a tick every MS milliseconds, even if nothing comes; not \
+                   with --tick-every",
         },
         NamedRow {
             name: "reuse",
@@ -126,7 +128,8 @@ pub(crate) static SPACECRAFT: CommandRow = CommandRow {
             behind: &["N"],
             action: ArgAction::Set,
             other: &[],
-            help: "Free a name N ticks after its use; no older packet may be on its way then",
+            help: "Free a name N ticks after its reception ended or its report was sent; no older \
+                   packet may be on its way then",
         },
         RESYNC,
         NamedRow {

@@ -70,7 +70,7 @@ pub enum WordFault<'a> {
         file: &'a str,
         option: &'static str,
     },
-    /// What is settled of a load is to be kept, but not what was loaded.
+    /// What is completed of a load is to be kept, but not what was loaded.
     Unkept,
     /// Memory runs out.
     Memory,

@@ -1,4 +1,4 @@
-//! What a job's file says is settled, and what standard error is told before each round.
+//! What a job's file says is completed, and what standard error is told before each round.
 
 use crate::ground_charts::Charts;
 use crate::ground_told::Teller;

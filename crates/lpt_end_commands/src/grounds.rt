@@ -152,7 +152,7 @@ fn tell_overlap(rt: &(impl Eprint + AllocGlobal), one: &Places, other: &Places) 
     tell_text(rt, text);
 }
 
-// Carries out what is ready, and keeps what is settled, if that is asked for.
+// Carries out what is ready, and keeps what is completed, if that is asked for.
 fn carry_ready<T: Threads + Wait + Clock + Copy + Drop + Send + 'static>(
     rt: &HostRuntime,
     threads: &T,
