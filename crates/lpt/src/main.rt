@@ -40,9 +40,9 @@ fn main(rt: HostRuntime) -> ExitCode {
     ExitCode::from(status as u8)
 }
 
-// The words of the command line, the program's name first.
+// Gives the words of the command line, the program's name first.
 //
-// Errors: the status by which the program ends, where a word isn't text or memory runs out.
+// Errors: the status by which the program ends, if a word isn't text or memory runs out.
 fn given_words(rt: &(impl Env + Eprint + AllocGlobal)) -> Result<Vec<String>, Status> {
     let words = match env::args(rt) {
         Ok(words) => words,
@@ -81,7 +81,7 @@ fn serve<T: Threads + Wait + Clock + Copy + Drop + Send + Sync + 'static>(
     }
 }
 
-// Does the command, under its configuration where it has one.
+// Does the command, under its configuration if it has one.
 fn do_command<T: Threads + Wait + Clock + Copy + Drop + Send + Sync + 'static>(
     rt: &HostRuntime,
     threads: &T,

@@ -77,12 +77,12 @@ abbrev pub text_of : Option (List ℕ) → List ℕ
 text_of None = []
 text_of (Some m) = m
 
--- the oldest of these, where it wasn't dropped
+-- the oldest of these, if it wasn't dropped
 abbrev pub oldest_of : List (Option (List ℕ)) → List (List ℕ)
 oldest_of [] = []
 oldest_of (w ∷ ws) = as_list w
 
--- the requests that were executed after a move, where these wait
+-- the requests that were executed after a move, if these wait
 abbrev pub done_after : Move → List (Option (List ℕ)) → List (List ℕ) → List (List ℕ)
 done_after (Do Apply) ws ds = ds ++ oldest_of ws
 done_after _ ws ds = ds
@@ -156,7 +156,7 @@ IfUp Up A = A
 IfUp Down A = ⊤
 
 -- A plain request that is released is one that ground asked. What is released of a request that
--- came in parts is its awaited message, and its reception expires or is broken off only where one
+-- came in parts is its awaited message, and its reception expires or is broken off only if one
 -- is.
 abbrev pub IsSent : Fact → Log → Type 0
 IsSent (Released None m) log = Contains log (Asked m)
@@ -172,7 +172,7 @@ AllSent (x ∷ log) = AllSent log × IsSent x log
 -- Each request that was released was sent by ground. The memories are their first content, changed
 -- by the executed requests; these were released in their order, and none of them was dropped or
 -- refused. What the spacecraft executes next, once it was read, is the oldest request, or a message
--- of no octets where that was dropped.
+-- of no octets if that was dropped.
 pub record IsServed (c : Config) (first : Contents) (s : Service) : Type 0 where
   pub sent : AllSent s.pair.ends.log
   pub memories : s.pair.ends.memories ≡ left_by c.apid s.done first

@@ -10,7 +10,7 @@ use Rattle.lpt_events.specs.Lanes.{same_direction}
 use Rattle.lpt_journal.specs.Jobs.{went_up}
 
 -- A message was opened; ground asked for something by a plain request, whose packet has these
--- octets; a message was released, of a transaction, or of none where it was a plain request; a
+-- octets; a message was released, of a transaction, or of none if it was a plain request; a
 -- reception expired or was broken off; the spacecraft executed its oldest request; a name was
 -- retired; a node was restarted.
 pub data Fact : Type 0 where
@@ -26,7 +26,7 @@ pub data Fact : Type 0 where
 abbrev pub Log : Type 0
 Log = List Fact
 
--- the log with the reception that a delivery with this outcome has broken off, where it has
+-- the log with the reception that a delivery with this outcome has broken off, if it has
 abbrev pub with_abortion : Direction → Outcome → Log → Log
 with_abortion d (Broken name reason) log = Aborted d name ∷ log
 with_abortion d _ log = log
@@ -52,7 +52,7 @@ awaited_after Executed d name before = before
 awaited_after (Retired e i) d name before = if is_same e i d name then None else before
 awaited_after (Restarted side) d name before = before
 
--- the message last opened under a name, where since then it was neither released nor retired, and
+-- the message last opened under a name, if since then it was neither released nor retired, and
 -- its reception neither expired nor was broken off
 abbrev pub message_awaited : Log → Direction → Name → Option (List ℕ)
 message_awaited [] d name = None
@@ -76,7 +76,7 @@ abbrev pub waiting : Log → List (List ℕ)
 waiting [] = []
 waiting (x ∷ log) = waiting_after x (waiting log)
 
--- the requests that were executed after a fact, where these wait
+-- the requests that were executed after a fact, if these wait
 abbrev pub executed_after : Fact → (waits : List (List ℕ)) → List (List ℕ) → List (List ℕ)
 executed_after (Opened e i m) waits before = before
 executed_after (Asked b) waits before = before

@@ -68,8 +68,8 @@ pair_after c p (Free d name) = freed_by p d name
 
 -- ---- when a move can happen
 
--- A step can happen as before, but a name is retired where its receiver has freed it. A receiver
--- frees a name where it is over.
+-- A step can happen as before, but a name is retired if its receiver has freed it. A receiver
+-- frees a name if it is over.
 --
 -- Assumed: A name is freed first at its receiver, later at its sender, and only when its message is
 -- closed, no reception of it is open and no part of it comes any more.

@@ -140,12 +140,12 @@ requested_on e x =
       log = Asked x.1 ∷ e.log;
     }
 
--- the log with what was released, where something was
+-- the log with what was released, if something was
 abbrev pub with_release : Log → Option (Direction × Name) → Option (List ℕ) → Log
 with_release log of None = log
 with_release log of (Some m) = Released of m ∷ log
 
--- a node has taken what was handed to it, and its report is put out, where it made one
+-- a node has taken what was handed to it, and its report is put out, if it made one
 abbrev pub accepted_on : Ends → Direction → NodeData × Accepted → Ends
 accepted_on e d x =
     record (with_node e (receiver_side d) x.0) {
@@ -155,7 +155,7 @@ accepted_on e d x =
           (with_release e.log (released_of d x.1.outcome) x.1.released);
     }
 
--- a node has given a reception up, and its report is put out, where it made one
+-- a node has given a reception up, and its report is put out, if it made one
 abbrev pub expired_on : Ends → Side → NodeData × Expired → Ends
 expired_on e side x =
     record (with_node e side x.0) {
@@ -182,7 +182,7 @@ committed_on c e w (Some t) =
       tickets = with_ticket e.tickets w None;
     }
 
--- the log with the opening of a report of data, where one was opened
+-- the log with the opening of a report of data, if one was opened
 abbrev pub with_report : Log → Option (Name × List ℕ) → Log
 with_report log None = log
 with_report log (Some x) = Opened Down x.0 x.1 ∷ log

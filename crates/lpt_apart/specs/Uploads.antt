@@ -14,7 +14,7 @@ use Rattle.lpt_apart.specs.Facts.{Log}
 use Rattle.lpt_apart.specs.Whole.{CameWhole, came_moved, is_aborted, is_reported, last_opened, last_released}
 
 -- whether part k of a transaction came after a turn of these ends: no part comes, and none is lost,
--- where a request is read, dropped, let go or refused, unless a report of data is opened
+-- if a request is read, dropped, let go or refused, unless a report of data is opened
 abbrev pub came_turned : Config → Service → ServiceTurn → Direction → Name → (k : ℕ) → Bool → Bool
 came_turned c s (Makes x) d name k before = came_moved c s.pair x d name k before
 came_turned c s Reads d name k before = before
@@ -32,7 +32,7 @@ came_with c s (x ∷ xs) d name k =
     came_turned c (turned_all c s xs) x d name k (came_with c s xs d name k)
 
 -- By this log, a message to the spacecraft that was last opened under a name, and each part of
--- which came since, was released since; but where its reception expired or was broken off since.
+-- which came since, was released since, unless its reception expired or was broken off since.
 abbrev pub WithholdsNoRequest : Config → Log → (came : Direction → Name → ℕ → Bool) → Type 0
 WithholdsNoRequest c log came =
     (name : Name) (m : List ℕ)

@@ -84,7 +84,7 @@ opened_after (Opened e i m) d name before = if is_same e i d name then Some m el
 opened_after (Retired e i) d name before = if is_same e i d name then None else before
 opened_after _ d name before = before
 
--- the message last opened under a name, where that wasn't retired since
+-- the message last opened under a name, if that wasn't retired since
 abbrev pub last_opened : Log → Direction → Name → Option (List ℕ)
 last_opened [] d name = None
 last_opened (x ∷ log) d name = opened_after x d name (last_opened log d name)
@@ -118,7 +118,7 @@ abbrev pub CameWhole : Config → (came : ℕ → Bool) → (message : List ℕ)
 CameWhole c came m = (k : ℕ) → 1 ≤ k → k ≤ part_count (length m) c.part_size → came k ≡ true
 
 -- By this log, what was last opened under a name, and each part of which came since, was released
--- since; but where its reception expired or was broken off since.
+-- since, unless its reception expired or was broken off since.
 abbrev pub WithholdsNothing : Config → Log → (came : Direction → Name → ℕ → Bool) → Type 0
 WithholdsNothing c log came =
     (d : Direction) (name : Name) (m : List ℕ)
@@ -143,7 +143,7 @@ EndsApartWithholdNothing =
     → CanMoveAll c first xs
     → WithholdsNothing c (came_to c first xs).ends.log (came_in c first xs)
 
--- and where they have clocks and limits of their own
+-- and if they have clocks and limits of their own
 abbrev pub EndsWithClocksWithholdNothing : Type 0
 EndsWithClocksWithholdNothing =
     (c : Config) (first : Contents) (g : ℕ) (k : Own) (xs : List Move)

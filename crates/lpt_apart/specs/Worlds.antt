@@ -22,7 +22,7 @@ use Rattle.lpt_apart.specs.Steps.{Step, ends_reached, CanRun}
 use Rattle.lpt_apart.specs.Told.{log_told}
 
 -- What the spacecraft's node asks for besides: a job that a worker has was claimed and not handed
--- in, where it is of this boot; and what would be executed was read for these memories.
+-- in, if it is of this boot; and what would be executed was read for these memories.
 pub record IsReadyNode (c : Config) (e : Ends) : Type 0 where
   pub commits : (w : Worker) (t : Job)
       → ticket_of e.tickets w ≡ Some t

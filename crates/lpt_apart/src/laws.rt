@@ -17,27 +17,27 @@ pub fn ends_are_a_world()
     ensures { EndsAreAWorld }
 {}
 
-/// Of such two ends each large message that was released is the one last opened under its name at
-/// the other end, and since then it was neither released, nor did its reception expire, nor was it
-/// broken off. Each plain request that was released is one that ground asked. The memories are
-/// their first content, changed by the executed requests in order of release.
+/// Each large message that two ends apart release is the one last opened under its name at the
+/// other end, and between that opening and the release it wasn't released, nor did its reception
+/// expire, nor was it broken off. Each plain request that was released is one that ground asked.
+/// The memories are their first content, changed by the executed requests in order of release.
 pub fn ends_keep_the_promise()
     ensures { EndsKeepThePromise }
 {}
 
-/// The same, if a name is freed at its receiver first and then at its sender, so that no call is
-/// of both ends: but for names that are freed at their receivers alone, the ends are a world's.
+/// The same holds if a name is freed at its receiver first and then at its sender, so that no call
+/// is of both ends: but for names that are freed at their receivers alone, the ends are a world's.
 pub fn ends_apart_are_a_world()
     ensures { EndsApartAreAWorld }
 {}
 
-/// Such ends keep the promise too.
+/// Ends that free a name at its receiver first and then at its sender keep the promise too.
 pub fn ends_apart_keep_the_promise()
     ensures { EndsApartKeepThePromise }
 {}
 
-/// So do such ends with clocks and limits of their own. All else of their configurations is
-/// the same.
+/// Ends with clocks and limits of their own keep the promise too. All else of their configurations
+/// is the same.
 pub fn ends_with_clocks_keep_the_promise()
     ensures { EndsWithClocksKeepThePromise }
 {}
@@ -63,12 +63,13 @@ pub fn ends_withhold_nothing()
     ensures { EndsWithholdNothing }
 {}
 
-/// So it is if a name is freed at its receiver first and then at its sender.
+/// Two ends withhold nothing that came whole either if a name is freed at its receiver first and
+/// then at its sender.
 pub fn ends_apart_withhold_nothing()
     ensures { EndsApartWithholdNothing }
 {}
 
-/// And so it is if they have clocks and limits of their own.
+/// Two ends withhold nothing that came whole either if they have clocks and limits of their own.
 pub fn ends_with_clocks_withhold_nothing()
     ensures { EndsWithClocksWithholdNothing }
 {}
@@ -92,17 +93,18 @@ pub fn ends_that_drop_serve()
     ensures { EndsThatDropServe }
 {}
 
-/// Such ends withhold no request that came whole. Take what was last opened upwards under a name.
-/// If each part of it was handed over since then, and since the spacecraft was last restarted,
-/// while there was room, it was released since, unless its reception expired or was broken off.
+/// Ends that drop requests withhold no request that came whole. Take what was last opened upwards
+/// under a name. If each part of it was handed over since then, and since the spacecraft was last
+/// restarted, while there was room, it was released since, unless its reception expired or was
+/// broken off.
 pub fn ends_that_drop_withhold_no_request()
     ensures { EndsThatDropWithholdNoRequest }
 {}
 
-/// Whatever such ends did before, nothing is put out and nothing is opened of a request that was
-/// dropped: neither when it is dropped nor when its place is passed over. What is put out if a
-/// request is executed are the reports of this request, as it was read, and it is the newest of
-/// those that were executed; if it is refused, those of its failure.
+/// Whatever ends that drop requests did before, nothing is put out and nothing is opened of a
+/// request that was dropped: neither when it is dropped nor when its place is passed over. What is
+/// put out if a request is executed are the reports of this request, as it was read, and it is the
+/// newest of those that were executed; if it is refused, those of its failure.
 pub fn dropped_is_not_reported()
     ensures { DroppedIsNotReported }
 {}

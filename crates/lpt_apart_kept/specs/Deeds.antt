@@ -60,7 +60,7 @@ pub record IsKept (c : Config) (k : Kept) (side : Side) : Type 0 where
 
 -- ---- what is read back
 
--- The ends, of which that of this side is what was read; where nothing could be read they stay. The
+-- The ends, of which that of this side is what was read; if nothing could be read they stay. The
 -- jobs of workers stay, too, though a machine loses them: they are of the boot before, so that what
 -- is handed in of them changes nothing.
 abbrev pub with_read : Pair → Side → Result NodeView StateFault → Pair

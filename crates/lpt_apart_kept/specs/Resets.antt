@@ -1,4 +1,4 @@
--- Two ends apart whose machines are reset at any time, also where they have done what they haven't
+-- Two ends apart whose machines are reset at any time, also if they have done what they haven't
 -- written.
 --
 -- What a machine did since it was last written is deleted by its reset from what was done. So what
@@ -118,7 +118,7 @@ left_without l Ground = l.but_ground
 left_without l Craft = l.but_craft
 
 -- A restart forgets a move: it comes to the same end with it and without it, and the move leaves
--- the workers' jobs and the memories. So it is where a part or a plain request is sent and where
+-- the workers' jobs and the memories. So it is if a part or a plain request is sent and if
 -- a message is finished.
 pub record IsForgotten (c : Config) (p : Pair) (x : Move) : Type 0 where
   pub node : node_restarted (node_at (pair_after c p x).ends (side_of x))
@@ -131,7 +131,7 @@ pub record IsWritable (c : Config) (p : Pair) (side : Side) : Type 0 where
   pub is_end : IsEnd (end_at c p side)
   pub boot_left : (node_at p.ends side).boot + 1 < 2 ^ 64
 
--- A machine can be reset where what is left can be done without what is deleted: so nothing that it
+-- A machine can be reset if what is left can be done without what is deleted: so nothing that it
 -- put out since it was last written was handed over, and the other end freed no name because of it.
 -- Workers have the jobs that they had when the spacecraft was written.
 abbrev pub CanReset : Config → (start : Pair) → Lived → Side → Type 0
@@ -195,7 +195,7 @@ pub record IsLeft (c : Config) (first : Contents) (start : Pair) (l : Lived) : T
   pub whole : WithholdsNothing c (after_all c start l.moves).ends.log
       (came_since c start l.moves)
 
--- whatever was done with two new ends that were written, also where they were reset in between,
+-- whatever was done with two new ends that were written, also if they were reset in between,
 -- once or again and again
 abbrev pub ResetEndsKeepThePromise : Type 0
 ResetEndsKeepThePromise =

@@ -29,7 +29,7 @@ dumped_of body p = record {
   len = length p.area.octets;
 }
 
--- it is told where there is one, with the checksum of its octets
+-- it is told if there is one, with the checksum of its octets
 abbrev pub if_sealed : List ℕ → Option Placed → Result LptDumped ℕ
 if_sealed body None = Err range
 if_sealed body (Some p) =

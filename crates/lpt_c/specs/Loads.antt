@@ -20,7 +20,7 @@ abbrev pub text_unless : Option MemoryFault → List ℕ → BufferText
 text_unless (Some fault) text = Err (code_of fault)
 text_unless None text = Ok text
 
--- the body that is to be written, where such a load can be
+-- the body that is to be written, if such a load can be
 abbrev pub load_told : ℕ → Area → BufferText
 load_told memory area = text_unless (write_fault (area ∷ [])) (load_body memory area)
 

@@ -50,7 +50,7 @@ carried_kind (Some packet) service subtype =
 abbrev pub is_part_size : ℕ → Bool
 is_part_size p = nat_le 4 p && nat_le p 1024
 
--- how many parts a message has; none where that is no part size, or no message is so long
+-- how many parts a message has; none if that is no part size, or no message is so long
 abbrev pub count_told : (len p : ℕ) → ℕ
 count_told len p =
     if is_part_size p && nat_le len longest_packet then part_count len p else 0
@@ -114,7 +114,7 @@ slice_text m p id k =
     else Err short_message)
     else Err range
 
--- the kind that is reported, where there is such a part
+-- the kind that is reported, if there is such a part
 abbrev pub kind_told : BufferText → Kind → ℕ → ℕ
 kind_told (Ok text) kind old = kind_number kind
 kind_told (Err fault) kind old = old

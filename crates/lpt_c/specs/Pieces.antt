@@ -16,7 +16,7 @@ kind_number Stray = 3
 abbrev pub is_set : ℕ → Bool
 is_set n = not (n == 0)
 
--- a piece, where it is shown
+-- a piece, if it is shown
 abbrev pub piece_found : Option Piece → Result Piece ℕ
 piece_found (Some p) = Ok p
 piece_found None = Err more

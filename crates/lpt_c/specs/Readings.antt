@@ -17,7 +17,7 @@ abbrev pub left_in : {X Y : Type 0} → (X → Y) → Result X ℕ → Y → Y
 left_in view (Ok x) old = view x
 left_in view (Err fault) old = old
 
--- a packet, where it isn't idle
+-- a packet, if it isn't idle
 abbrev pub packet_of_sight : Result Sight PacketFault → Result Fields ℕ
 packet_of_sight (Ok IdlePacket) = Err idle
 packet_of_sight (Ok (APacket f)) = Ok f

@@ -7,7 +7,7 @@ use Rattle.lpt_c.specs.declared.reports.LptReport.{LptReport}
 use Rattle.lpt_c.specs.Buffers.{BufferText}
 use Rattle.lpt_c.specs.Codes.{range, no_report}
 
--- a report, where there is one
+-- a report, if there is one
 abbrev pub report_found : Option Report → Result Report ℕ
 report_found (Some r) = Ok r
 report_found None = Err no_report

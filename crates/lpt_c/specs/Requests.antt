@@ -32,12 +32,12 @@ are_unfit ranges =
 abbrev pub ranges_body : ℕ → List LptRange → List ℕ
 ranges_body memory ranges = body_text range_text memory (map range_of ranges)
 
--- the body that is to be written, where the places can be asked for
+-- the body that is to be written, if the places can be asked for
 abbrev pub ranges_text : ℕ → List LptRange → BufferText
 ranges_text memory ranges =
     if are_unfit ranges then Err bad_area else Ok (ranges_body memory ranges)
 
--- a dump of this body means these places, in all memories that they are within, where the answer
+-- a dump of this body means these places, in all memories that they are within, if the answer
 -- fits a packet
 abbrev pub MeansDump : List ℕ → ℕ → List AreaRange → Type 0
 MeansDump body id ranges =

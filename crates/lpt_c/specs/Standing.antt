@@ -3,7 +3,7 @@ use Rattle.std.specs.Prelude.{ℕ, ◌+◌, nat_le, if◌then◌else◌, List, l
 use Rattle.lpt_c.specs.declared.rest.Rest.{Rest}
 use Rattle.lpt_c.specs.declared.rest.Rest.TheVariants.{Given, Standing}
 
--- so many octets of a buffer from a place on; where it hasn't so many there is no room, and what
+-- so many octets of a buffer from a place on; if it hasn't so many there is no room, and what
 -- they are doesn't matter: zeros
 abbrev pub standing : (at len : ℕ) → List ℕ → List ℕ
 standing at len old =

@@ -13,7 +13,7 @@ stream_code b =
     else all_done)
     else version
 
--- the length that is reported, where it is known
+-- the length that is reported, if it is known
 abbrev pub stream_length : List ℕ → ℕ → ℕ
 stream_length b old =
     if slice_index b 0 / 32 == 0 then

@@ -21,7 +21,7 @@ pub struct LptAbort {
 
 /// Reads a message's body as an abortion report.
 ///
-/// 0, and `out` says what it is; 24 if it is none.
+/// It answers 0, and `out` says what it is; 24 if it is none.
 pub fn lpt_read_abort(body: &[u8], out: &mut LptAbort) -> u32
     ensures code { result ≡ code_read (abort_read body.now) }
     ensures out { out.new ≡ left_in abort_told (abort_read body.now) out.old }
@@ -40,7 +40,7 @@ pub fn lpt_read_abort(body: &[u8], out: &mut LptAbort) -> u32
 
 /// Writes the body of an abortion report to the front of a buffer.
 ///
-/// 0; 102 if the reason isn't 1 to 3; 103 if the buffer is too short. At 0 and at 103
+/// It answers 0; 102 if the reason isn't 1 to 3; 103 if the buffer is too short. At 0 and at 103
 /// `needed` says how many octets the body has, 3.
 pub fn lpt_write_abort(id: u16, reason: u16, out: &mut [u8], needed: &mut usize) -> u32
     ensures code { result ≡ code_for (abort_text id (reason_named reason)) out.old }

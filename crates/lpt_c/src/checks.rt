@@ -31,8 +31,8 @@ const CHECKED: usize = 8;
 
 /// Reads one area of a message's body as the report that answers a check, by its number from 0.
 ///
-/// 0, and `out` says what it is; 105 if the body is no such report; 102 if it has no area of
-/// this number.
+/// It answers 0, and `out` says what it is; 105 if the body is no such report; 102 if it has no
+/// area of this number.
 pub fn lpt_read_check(body: &[u8], number: usize, out: &mut LptChecked) -> u32
     ensures code { result ≡ code_read (area_checked body.now number) }
     ensures out { out.new ≡ left_in (λ x. x) (area_checked body.now number) out.old }

@@ -39,7 +39,7 @@ pub struct LptTcHead {
 pub struct LptTc {
     /// What its headers say.
     pub head: LptTcHead,
-    /// If the body stands in the octets that were read.
+    /// Where the body begins in the octets that were read, from 0.
     pub at: usize,
     /// How many octets the body has.
     pub len: usize,
@@ -47,8 +47,8 @@ pub struct LptTc {
 
 /// Reads octets as a telecommand's whole packet.
 ///
-/// 0, and `out` says what it is; 101 of an idle packet; 1 to 6, the first fault of what is no
-/// packet; 12, 13 or 11, the first fault of a packet that is no telecommand.
+/// It answers 0, and `out` says what it is; 101 of an idle packet; 1 to 6, the first fault of what
+/// is no packet; 12, 13 or 11, the first fault of a packet that is no telecommand.
 pub fn lpt_read_tc(octets: &[u8], out: &mut LptTc) -> u32
     ensures code { result ≡ code_read (tc_read octets.now) }
     ensures out { out.new ≡ left_in tc_told (tc_read octets.now) out.old }
@@ -80,8 +80,8 @@ pub fn lpt_read_tc(octets: &[u8], out: &mut LptTc) -> u32
 
 /// Writes a telecommand's whole packet to the front of a buffer.
 ///
-/// 0; 102 if the APID is above 2046, the count above 16,383 or the flags above 15; 14 if the
-/// packet would have more than 65,542 octets; 103 if the buffer is too short. At 0 and at 103
+/// It answers 0; 102 if the APID is above 2046, the count above 16,383 or the flags above 15; 14 if
+/// the packet would have more than 65,542 octets; 103 if the buffer is too short. At 0 and at 103
 /// `needed` says how many octets the packet has, 13 more than the body.
 #[tactic(auto, unfolding(crate::specs::Standing::rest_in))]
 pub fn lpt_write_tc(head: &LptTcHead, body: &[u8], out: &mut [u8], needed: &mut usize) -> u32
@@ -92,10 +92,10 @@ pub fn lpt_write_tc(head: &LptTcHead, body: &[u8], out: &mut [u8], needed: &mut 
     write_tc(head, Rest::Given(body), out, needed)
 }
 
-/// Does the same of a body of so many octets that stands in the buffer already, from `out[11]` on,
-/// where it stands in the packet.
+/// Does the same with a body of `body_len` octets that stand in the buffer already, from `out[11]`
+/// on, where they belong in the packet.
 ///
-/// It answers as `lpt_write_tc` does of those octets. If the answer isn't 0 the buffer is as it
+/// It answers as `lpt_write_tc` does for those octets. If the answer isn't 0 the buffer is as it
 /// was.
 #[tactic(auto, unfolding(crate::specs::Standing::rest_in))]
 pub fn lpt_build_tc(head: &LptTcHead, body_len: usize, out: &mut [u8], needed: &mut usize) -> u32
@@ -124,7 +124,7 @@ fn write_tc(head: &LptTcHead, body: Rest<'_>, out: &mut [u8], needed: &mut usize
     fill_tc(head, body, out, needed)
 }
 
-// Writes a telecommand that fits to the front of a buffer, where it has room.
+// Writes a telecommand that fits to the front of a buffer, if it has room.
 fn fill_tc(head: &LptTcHead, body: Rest<'_>, out: &mut [u8], needed: &mut usize) -> u32
     requires head { IsTrue (tc_fits head.now) }
     requires body { rest_len body ≤ longest_tc_body }
@@ -149,7 +149,7 @@ fn fill_tc(head: &LptTcHead, body: Rest<'_>, out: &mut [u8], needed: &mut usize)
 /// Gives the request ID of a telecommand of this head, whatever its body: the first four octets of
 /// its packet as a number.
 ///
-/// 0; 102 if the APID is above 2046, the count above 16,383 or the flags above 15.
+/// It answers 0; 102 if the APID is above 2046, the count above 16,383 or the flags above 15.
 pub fn lpt_request_id(head: &LptTcHead, id: &mut u32) -> u32
     ensures code { result ≡ (if tc_fits head.now then all_done else range) }
     ensures id { (body : List ℕ) → result ≡ all_done → be id.new 4

@@ -20,7 +20,7 @@ pub struct LptDumped {
     pub areas: u8,
     /// The address of the area's first octet.
     pub address: u32,
-    /// If the area's octets stand in the body that was read.
+    /// Where the area's octets begin in the body that was read, from 0.
     pub at: usize,
     /// How many octets the area has.
     pub len: usize,
@@ -44,8 +44,8 @@ const AREA_TAIL: usize = 2;
 
 /// Reads one area of a message's body as the report that answers a dump, by its number from 0.
 ///
-/// 0, and `out` says what it is; 105 if the body is no such report; 102 if it has no area of
-/// this number; 6 if the area's checksum isn't that of its octets.
+/// It answers 0, and `out` says what it is; 105 if the body is no such report; 102 if it has no
+/// area of this number; 6 if the area's checksum isn't that of its octets.
 #[tactic(auto, unfolding(lpt_memory::specs::Requests::request_in))]
 pub fn lpt_read_dump(body: &[u8], number: usize, out: &mut LptDumped) -> u32
     ensures code { result ≡ code_read (area_dumped body.now number) }

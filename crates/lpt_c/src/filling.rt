@@ -11,7 +11,7 @@ use crate::codes::{DONE, ROOM};
 use crate::rest::Rest;
 use lpt_packet::{ERROR_CONTROL, PRIMARY_HEADER, PacketKind, crc16, primary_header};
 
-// Writes a packet to the front of a buffer, where it has room. Its data field is a header and what
+// Writes a packet to the front of a buffer, if it has room. Its data field is a header and what
 // stands behind it.
 #[tactic(auto, using(crate::proofs::TextLemmas::length_packet, crate::proofs::RestLemmas::length_rest))]
 pub(crate) fn fill_packet(
@@ -96,7 +96,7 @@ fn join_into(first: &[u8], second: &[u8], rest: Rest<'_>, out: &mut [u8])
     }
 }
 
-// Writes two pieces, one behind the other, to the front of a buffer, where it has room.
+// Writes two pieces, one behind the other, to the front of a buffer, if it has room.
 #[tactic(auto, unfolding(crate::specs::Standing::rest_in, crate::specs::Standing::rest_len))]
 pub(crate) fn fill(front: &[u8], rest: &[u8], out: &mut [u8], needed: &mut usize) -> u32
     requires { length front.now + length rest.now ≤ longest_packet }
@@ -108,7 +108,7 @@ pub(crate) fn fill(front: &[u8], rest: &[u8], out: &mut [u8], needed: &mut usize
 }
 
 // Writes two pieces, one behind the other, and what stands behind them, to the front of a buffer,
-// where it has room.
+// if it has room.
 pub(crate) fn fill_behind(
     first: &[u8],
     second: &[u8],

@@ -4,11 +4,13 @@
 //! `tools/archive.py` makes a static library of these calls.
 //!
 //! No call takes memory, and each is total: whatever the octets and the numbers are, it answers 0,
-//! or the number of what is wrong, and then it has left all but a reported length as it was. A
-//! writer writes to the front of a buffer and leaves the rest of it; it reports how many octets it
-//! needs also if the buffer is too short. The numbers are those of the faults, and a few of this
-//! library's own (`codes`). A caller in C promises what the types of the parameters say: that
-//! lengths are true, that no pointer is null, and that nothing overlaps.
+//! or the number of what is wrong, and then it has left all as it was, with these exceptions: at
+//! 103 it reports the length that is needed, and `lpt_slice_part` also the part's kind; at 101
+//! `lpt_packet_length` reports the length. A writer writes to the front of a buffer and leaves the
+//! rest of it; it reports how many octets it needs also if the buffer is too short. The numbers are
+//! those of the faults, and a few of this library's own (`codes`). A caller in C promises what the
+//! types of the parameters say: that lengths are true, that no pointer is null, and that nothing
+//! overlaps.
 #![tactic(auto)]
 
 mod aborts;

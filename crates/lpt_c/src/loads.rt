@@ -14,7 +14,7 @@ use lpt_packet::crc16;
 /// Writes the body of a load to the front of a buffer: that these octets go to this memory, from
 /// this address on. They get their checksum.
 ///
-/// 0; 28 if there are no octets, 27 if there are more than 65,519; 103 if the buffer is
+/// It answers 0; 28 if there are no octets, 27 if there are more than 65,519; 103 if the buffer is
 /// too short. At 0 and at 103 `needed` says how many octets the body has, 10 more than these.
 #[tactic(auto, unfolding(crate::specs::Standing::rest_in, crate::specs::Standing::rest_len))]
 pub fn lpt_write_load(

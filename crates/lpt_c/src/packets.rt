@@ -21,7 +21,7 @@ pub struct LptPacket {
     pub apid: u16,
     /// The packet sequence count, 0 to 16,383.
     pub count: u16,
-    /// If the data field stands in the octets that were read.
+    /// Where the data field begins in the octets that were read, from 0.
     pub at: usize,
     /// How many octets the data field has.
     pub len: usize,
@@ -29,8 +29,8 @@ pub struct LptPacket {
 
 /// Reads octets as a packet.
 ///
-/// 0, and `out` says what it is; 101 of an idle packet; 1 to 6, the first fault of what is no
-/// packet.
+/// It answers 0, and `out` says what it is; 101 of an idle packet; 1 to 6, the first fault of what
+/// is no packet.
 pub fn lpt_read_packet(octets: &[u8], out: &mut LptPacket) -> u32
     ensures code { result ≡ code_read (packet_read octets.now) }
     ensures out { out.new ≡ left_in packet_told (packet_read octets.now) out.old }
@@ -56,8 +56,8 @@ pub fn lpt_read_packet(octets: &[u8], out: &mut LptPacket) -> u32
 
 /// Writes a packet of telemetry, `kind` 0, or of a telecommand, 1, to the front of a buffer.
 ///
-/// 0; 102 if the kind is another, the APID above 2046 or the count above 16,383; 14 if the
-/// packet would have more than 65,542 octets; 103 if the buffer is too short. At 0 and at 103
+/// It answers 0; 102 if the kind is another, the APID above 2046 or the count above 16,383; 14 if
+/// the packet would have more than 65,542 octets; 103 if the buffer is too short. At 0 and at 103
 /// `needed` says how many octets the packet has.
 #[tactic(auto, unfolding(crate::specs::Standing::rest_in))]
 pub fn lpt_write_packet(
@@ -78,10 +78,10 @@ pub fn lpt_write_packet(
     write_packet(kind, apid, count, Rest::Given(field), out, needed)
 }
 
-/// Does the same of a data field of so many octets that stands in the buffer already, from `out[6]`
-/// on, where it stands in the packet.
+/// Does the same with a data field of `field_len` octets that stand in the buffer already, from
+/// `out[6]` on, where they belong in the packet.
 ///
-/// It answers as `lpt_write_packet` does of those octets. If the answer isn't 0 the buffer is as
+/// It answers as `lpt_write_packet` does for those octets. If the answer isn't 0 the buffer is as
 /// it was.
 #[tactic(auto, unfolding(crate::specs::Standing::rest_in))]
 pub fn lpt_build_packet(

@@ -25,7 +25,7 @@ pub struct LptPart {
     pub number: u16,
     /// 1 the first part, 2 an intermediate one, 3 the last.
     pub kind: u32,
-    /// If the part's octets stand in the body that was read.
+    /// Where the part's octets begin in the body that was read, from 0.
     pub at: usize,
     /// How many octets the part has.
     pub len: usize,
@@ -61,8 +61,8 @@ pub fn lpt_part_count(message_len: usize, part_size: u32) -> u32
 
 /// Reads a message's body as a part of this kind, for parts of `part_size` octets.
 ///
-/// 0, and `out` says what it is; 102 if the kind isn't 1 to 3 or the size isn't 4 to 1024; 20 to
-/// 23, the first fault of a body that is no such part.
+/// It answers 0, and `out` says what it is; 102 if the kind isn't 1 to 3 or the size isn't 4 to
+/// 1024; 20 to 23, the first fault of a body that is no such part.
 pub fn lpt_read_part(kind: u32, body: &[u8], part_size: u32, out: &mut LptPart) -> u32
     ensures code { result ≡ code_read (part_read (kind_named kind) body.now part_size) }
     ensures out { out.new
@@ -91,8 +91,8 @@ pub fn lpt_read_part(kind: u32, body: &[u8], part_size: u32, out: &mut LptPart) 
 
 /// Writes the body of a message that carries a part to the front of a buffer.
 ///
-/// 0; 102 if the kind isn't 1 to 3 or the size isn't 4 to 1024; 21, 22 or 23 if there is no
-/// part of this kind, number and length; 103 if the buffer is too short. At 0 and at 103
+/// It answers 0; 102 if the kind isn't 1 to 3 or the size isn't 4 to 1024; 21, 22 or 23 if there is
+/// no part of this kind, number and length; 103 if the buffer is too short. At 0 and at 103
 /// `needed` says how many octets the body has, 4 more than the part.
 #[tactic(auto, unfolding(crate::specs::Standing::rest_in))]
 pub fn lpt_write_part(
@@ -122,11 +122,11 @@ pub fn lpt_write_part(
     )
 }
 
-/// Does the same of a part of so many octets that stands in the buffer already, from `out[4]` on,
-/// where it stands in the body.
+/// Does the same with a part of `octets_len` octets that stand in the buffer already, from `out[4]`
+/// on, where they belong in the body.
 ///
-/// It answers as `lpt_write_part` does of those octets. If the answer isn't 0 the buffer is as
-/// it was.
+/// It answers as `lpt_write_part` does for those octets. If the answer isn't 0 the buffer is as it
+/// was.
 #[tactic(auto, unfolding(crate::specs::Standing::rest_in))]
 pub fn lpt_build_part(
     kind: u32,
@@ -200,9 +200,9 @@ fn write_part(
 /// Writes the body of the message that carries the part of a number, in parts of `part_size`
 /// octets, to the front of a buffer, and gives the part's kind, 1 to 3.
 ///
-/// 0; 102 if the size isn't 4 to 1024; 42 if the message isn't longer than a part, 43 if
-/// it has more than 65,542 octets; 46 if it has no part of that number; 103 if the buffer is
-/// too short. At 0 and at 103 the kind is written, and `needed` says how many octets the body has.
+/// It answers 0; 102 if the size isn't 4 to 1024; 42 if the message isn't longer than a part, 43 if
+/// it has more than 65,542 octets; 46 if it has no part of that number; 103 if the buffer is too
+/// short. At 0 and at 103 the kind is written, and `needed` says how many octets the body has.
 #[tactic(auto, unfolding(crate::specs::Standing::rest_in, crate::specs::Standing::rest_len))]
 pub fn lpt_slice_part(
     message: &[u8],
@@ -269,7 +269,7 @@ fn kind_of_part(k: u32, parts: u32) -> Kind
     }
 }
 
-// Writes a part's body to the front of a buffer, where it has room.
+// Writes a part's body to the front of a buffer, if it has room.
 #[tactic(auto, unfolding(lpt_part::specs::Parts::body_of))]
 fn fill_part(
     kind: Kind,

@@ -13,12 +13,12 @@ use crate::codes::{DONE, MORE};
 use lpt_stream::{PieceKind, piece_in_front, strays_in_front};
 
 /// Finds the piece in front of octets of a stream: its kind, 1 a packet, 2 a damaged one, 3 an
-/// octet with which none of these begins; and how many octets it has. In step an idle packet is
-/// one, and so is one with a right checksum that has no secondary header or is a segment.
+/// octet with which none of these begins; and how many octets it has. In step an idle packet counts
+/// as a packet, and so does one with a right checksum that has no secondary header or is a segment.
 ///
-/// `in_step` isn't 0 if the octets begin the stream, or come right behind a piece of kind 1 or
-/// 2; `is_end` isn't 0 if nothing comes behind them. 0, and kind and size are written; 104 if
-/// there are no octets, or it depends on those that may still come.
+/// `in_step` isn't 0 if the octets begin the stream, or come right behind a piece of kind 1 or 2;
+/// `is_end` isn't 0 if nothing comes behind them. It answers 0, and kind and size are written; 104
+/// if there are no octets, or the piece depends on those that may still come.
 pub fn lpt_find_piece(
     octets: &[u8],
     in_step: u32,
@@ -46,8 +46,8 @@ pub fn lpt_find_piece(
 }
 
 /// Counts the octets in front of a stream that are none of a packet, one behind the other, right
-/// behind such an octet: so many times `lpt_find_piece` with `in_step` 0 would tell kind 3. At most
-/// 65,542. `is_end` isn't 0 if nothing comes behind the octets.
+/// behind such an octet: that many times `lpt_find_piece` with `in_step` 0 would tell kind 3. At
+/// most 65,542. `is_end` isn't 0 if nothing comes behind the octets.
 ///
 /// What it works out goes into `room`: with 2,049 numbers in it an octet takes a bounded time,
 /// however long the packets are that headers announce. With fewer the answer is the same.

@@ -15,7 +15,7 @@ use lpt_verify::read_report;
 pub struct LptReport {
     /// The ID of the request that it reports on.
     pub request: u32,
-    /// 1 if it reports a failure, else 0.
+    /// 1 if it reports a failure, otherwise 0.
     pub failed: u16,
     /// The failure code; 0 of a success.
     pub code: u16,
@@ -24,7 +24,7 @@ pub struct LptReport {
 /// Reads a message's body as the verification report of this message subtype: 1, 3 or 7 of success,
 /// 2 or 4 of failure.
 ///
-/// 0, and `out` says what it is; 105 if it is none. Any failure code is read.
+/// It answers 0, and `out` says what it is; 105 if it is none. Any failure code is read.
 pub fn lpt_read_report(subtype: u8, body: &[u8], out: &mut LptReport) -> u32
     ensures code { result ≡ code_read (report_read subtype body.now) }
     ensures out { out.new ≡ left_in report_told (report_read subtype body.now) out.old }
@@ -46,8 +46,9 @@ pub fn lpt_read_report(subtype: u8, body: &[u8], out: &mut LptReport) -> u32
 
 /// Writes the body of the verification report of this message subtype to the front of a buffer.
 ///
-/// 0; 102 if the subtype is none of 1, 3 and 7 with code 0, nor 2 or 4 with a code of 1 to 8;
-/// 103 if the buffer is too short. At 0 and at 103 `needed` says how many octets the body has.
+/// It answers 0; 102 if the subtype is none of 1, 3 and 7 with code 0, nor 2 or 4 with a code of 1
+/// to 8; 103 if the buffer is too short. At 0 and at 103 `needed` says how many octets the body
+/// has.
 pub fn lpt_write_report(
     subtype: u8,
     request: u32,

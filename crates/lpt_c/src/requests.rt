@@ -30,8 +30,8 @@ const RANGE: usize = 6;
 /// Writes the body of a dump to the front of a buffer: of the memory of this identifier, the octets
 /// at these places, in their order.
 ///
-/// 0; 28 for no place, more than 255, or one without octets; 103 if the buffer is too short. At
-/// 0 and at 103 `needed` says how many octets the body has, 2 and 6 for each place.
+/// It answers 0; 28 for no place, more than 255, or one without octets; 103 if the buffer is too
+/// short. At 0 and at 103 `needed` says how many octets the body has, 2 and 6 for each place.
 pub fn lpt_write_dump(memory: u8, ranges: &[LptRange], out: &mut [u8], needed: &mut usize) -> u32
     ensures code { result ≡ code_for (ranges_text memory ranges.now) out.old }
     ensures buffer { out.new ≡ left_by (ranges_text memory ranges.now) out.old }
@@ -47,8 +47,8 @@ pub fn lpt_write_dump(memory: u8, ranges: &[LptRange], out: &mut [u8], needed: &
 /// Writes the body of a check to the front of a buffer: of the memory of this identifier, the
 /// checksums of the octets at these places, in their order.
 ///
-/// 0; 28 for no place, more than 255, or one without octets; 103 if the buffer is too short. At
-/// 0 and at 103 `needed` says how many octets the body has, 2 and 6 for each place.
+/// It answers 0; 28 for no place, more than 255, or one without octets; 103 if the buffer is too
+/// short. At 0 and at 103 `needed` says how many octets the body has, 2 and 6 for each place.
 pub fn lpt_write_check(memory: u8, ranges: &[LptRange], out: &mut [u8], needed: &mut usize) -> u32
     ensures code { result ≡ code_for (ranges_text memory ranges.now) out.old }
     ensures buffer { out.new ≡ left_by (ranges_text memory ranges.now) out.old }
@@ -61,7 +61,7 @@ pub fn lpt_write_check(memory: u8, ranges: &[LptRange], out: &mut [u8], needed: 
     fill_ranges(memory, ranges, out, needed)
 }
 
-// Writes the body of a dump or a check to the front of a buffer, where it has room.
+// Writes the body of a dump or a check to the front of a buffer, if it has room.
 fn fill_ranges(memory: u8, ranges: &[LptRange], out: &mut [u8], needed: &mut usize) -> u32
     ensures code { result ≡ code_for (ranges_text memory ranges.now) out.old }
     ensures buffer { out.new ≡ left_by (ranges_text memory ranges.now) out.old }

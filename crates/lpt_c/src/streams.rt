@@ -12,8 +12,8 @@ const VERSION: u32 = 2;
 
 /// Says how many octets the packet has that begins a stream.
 ///
-/// 0 of a packet and 101 of an idle one, and then `length` is written, 7 to 65,542; 104 if there
-/// are too few octets yet to know; 2 if no packet begins so.
+/// It answers 0 for a packet and 101 for an idle one, and then `length` is written, 7 to 65,542;
+/// 104 if there are too few octets yet to know; 2 if no packet begins so.
 pub fn lpt_packet_length(octets: &[u8], length: &mut usize) -> u32
     ensures code { result ≡ stream_code octets.now }
     ensures told { length.new ≡ stream_length octets.now length.old }

@@ -41,7 +41,7 @@ pub struct LptTmHead {
 pub struct LptTm {
     /// What its headers say.
     pub head: LptTmHead,
-    /// If the body stands in the octets that were read.
+    /// Where the body begins in the octets that were read, from 0.
     pub at: usize,
     /// How many octets the body has.
     pub len: usize,
@@ -49,8 +49,8 @@ pub struct LptTm {
 
 /// Reads octets as telemetry's whole packet.
 ///
-/// 0, and `out` says what it is; 101 of an idle packet; 1 to 6, the first fault of what is no
-/// packet; 12, 13 or 11, the first fault of a packet that is no telemetry.
+/// It answers 0, and `out` says what it is; 101 of an idle packet; 1 to 6, the first fault of what
+/// is no packet; 12, 13 or 11, the first fault of a packet that is no telemetry.
 pub fn lpt_read_tm(octets: &[u8], out: &mut LptTm) -> u32
     ensures code { result ≡ code_read (tm_read octets.now) }
     ensures out { out.new ≡ left_in tm_told (tm_read octets.now) out.old }
@@ -85,9 +85,9 @@ pub fn lpt_read_tm(octets: &[u8], out: &mut LptTm) -> u32
 /// Writes telemetry's whole packet to the front of a buffer. The status is written as 0, whatever
 /// the head's is.
 ///
-/// 0; 102 if the APID is above 2046, the count above 16,383 or the status above 15; 14 if the
-/// packet would have more than 65,542 octets; 103 if the buffer is too short. At 0 and at 103
-/// `needed` says how many octets the packet has, 19 more than the body.
+/// It answers 0; 102 if the APID is above 2046, the count above 16,383 or the status above 15; 14
+/// if the packet would have more than 65,542 octets; 103 if the buffer is too short. At 0 and at
+/// 103 `needed` says how many octets the packet has, 19 more than the body.
 #[tactic(auto, unfolding(crate::specs::Standing::rest_in))]
 pub fn lpt_write_tm(head: &LptTmHead, body: &[u8], out: &mut [u8], needed: &mut usize) -> u32
     ensures code { result ≡ code_for (tm_text head.now body.now) out.old }
@@ -97,10 +97,10 @@ pub fn lpt_write_tm(head: &LptTmHead, body: &[u8], out: &mut [u8], needed: &mut 
     write_tm(head, Rest::Given(body), out, needed)
 }
 
-/// Does the same of a body of so many octets that stands in the buffer already, from `out[17]` on,
-/// where it stands in the packet.
+/// Does the same with a body of `body_len` octets that stand in the buffer already, from `out[17]`
+/// on, where they belong in the packet.
 ///
-/// It answers as `lpt_write_tm` does of those octets. If the answer isn't 0 the buffer is as it
+/// It answers as `lpt_write_tm` does for those octets. If the answer isn't 0 the buffer is as it
 /// was.
 #[tactic(auto, unfolding(crate::specs::Standing::rest_in))]
 pub fn lpt_build_tm(head: &LptTmHead, body_len: usize, out: &mut [u8], needed: &mut usize) -> u32
@@ -129,7 +129,7 @@ fn write_tm(head: &LptTmHead, body: Rest<'_>, out: &mut [u8], needed: &mut usize
     fill_tm(head, body, out, needed)
 }
 
-// Writes telemetry that fits to the front of a buffer, where it has room.
+// Writes telemetry that fits to the front of a buffer, if it has room.
 fn fill_tm(head: &LptTmHead, body: Rest<'_>, out: &mut [u8], needed: &mut usize) -> u32
     requires head { IsTrue (tm_fits head.now) }
     requires body { rest_len body ≤ longest_tm_body }

@@ -32,7 +32,7 @@ access_word a = record {
   len = a.len;
 }
 
--- what stands first among an end's requests, where it was read
+-- what stands first among an end's requests, if it was read
 abbrev pub first_read : End → Option Source
 first_read e = front_reading (head_of e.node.at.jobs.jobs)
 

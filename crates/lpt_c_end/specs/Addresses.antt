@@ -14,7 +14,7 @@ abbrev pub address_owns : Global → Ptr → Option the_row.Denot → Fml
 address_owns alloc at None = ftrue
 address_owns alloc at (Some value) = box_owns (ghosts.dealloc_token alloc) the_row at value
 
--- the end in the handle at an address, where there is one
+-- the end in the handle at an address, if there is one
 abbrev pub end_at : Option LptEnd → Option End
 end_at handle = option_and_then (λ h. h.held.value) handle
 

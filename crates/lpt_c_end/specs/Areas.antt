@@ -13,12 +13,12 @@ use Rattle.lpt_c_end.specs.declared.end.End.{End}
 
 -- ---- the areas of a load
 
--- the body of a load, where a telecommand is one
+-- the body of a load, if a telecommand is one
 abbrev pub body_of_load : Command → Option (List ℕ)
 body_of_load c =
     if c.service == 6 then (if c.subtype == 2 then Some c.body else None) else None
 
--- the body of the load that octets are the telecommand of, where they are one of this APID
+-- the body of the load that octets are the telecommand of, if they are one of this APID
 abbrev pub load_in : (apid : ℕ) → List ℕ → Option (List ℕ)
 load_in apid octets = option_and_then body_of_load (command_in apid octets)
 

@@ -30,13 +30,13 @@ IfBoth F (Some e) (Some new) = F e new
 abbrev pub IsTold : List ℕ → LptOutcome → End → Type 0
 IsTold b said e = said ≡ words (delivery e b).1.outcome
 
--- the state of a name in a direction, where that is one
+-- the state of a name in a direction, if that is one
 abbrev pub state_of : (direction : ℕ) → Name → End → Option ℕ
 state_of direction name e =
     if nat_lt 1 direction then None
     else Some (state_word (name_state e.side e.node.at (direction_from direction) name))
 
--- the same behind a handle, and what stood there before where there is none
+-- the same behind a handle, and what stood there before if there is none
 abbrev pub state_told : (direction : ℕ) → Name → Option End → (before : ℕ) → ℕ
 state_told direction name None before = before
 state_told direction name (Some e) before = unwrap_or (state_of direction name e) before

@@ -83,15 +83,15 @@ pub record IsDelivered (b : List ℕ) (e new : End) : Type 0 where
   pub outbox : new.outbox.items ≡ e.outbox.items ++ option_to_list (delivery e b).1.packet
   pub fixed : IsFixed e new
 
--- what the node does where a reception is given up
+-- what the node does if a reception expires
 abbrev pub expiry : End → NodeData × Expired
 expiry e = reception_expired e.side e.config e.node.at
 
--- the reception that is due was given up, and a report of it is to be sent
+-- the reception that is due has expired, and a report of it is to be sent
 abbrev pub IsExpired : End → End → Type 0
 IsExpired e = Makes (expiry e).0 (option_to_list (expiry e).1.packet) e
 
--- what the node does where the reception of a name is given up before its time
+-- what the node does if the reception of a name is given up before its time
 abbrev pub giving_up : Name → End → NodeData × Expired
 giving_up name e = given_up e.side e.config e.node.at name
 
@@ -106,7 +106,7 @@ IsGivenUp name e =
 abbrev pub IsOpened : Name → List ℕ → End → End → Type 0
 IsOpened name message e = Becomes (message_opened e.node.at name message) e
 
--- what the node does where a part is sent
+-- what the node does if a part is sent
 abbrev pub part_of : Name → (k : ℕ) → End → NodeData × List ℕ
 part_of name k e = part_sent e.side e.config e.node.at name k
 
@@ -114,7 +114,7 @@ part_of name k e = part_sent e.side e.config e.node.at name k
 abbrev pub IsPartMade : Name → (k : ℕ) → End → End → Type 0
 IsPartMade name k e = Makes (part_of name k e).0 ((part_of name k e).1 ∷ []) e
 
--- what the node does where a plain request is made
+-- what the node does if a plain request is made
 abbrev pub plain_of : (source flags service subtype : ℕ) → List ℕ → End → NodeData × List ℕ
 plain_of source flags service subtype body e =
     plain_made e.config e.node.at source flags service subtype body
@@ -178,12 +178,12 @@ read_as message c sizes d =
 abbrev pub read_over : Config → Sizes → NodeData → NodeData
 read_over c sizes d = read_as (job_claimed d).1.message c sizes d
 
--- the same, where there are memories
+-- the same, if there are memories
 abbrev pub read_by : Config → Option Sizes → NodeData → NodeData
 read_by c None d = d
 read_by c (Some sizes) d = read_over c sizes d
 
--- a message in place of the oldest job's, where there are memories
+-- a message in place of the oldest job's, if there are memories
 abbrev pub read_as_by : List ℕ → Config → Option Sizes → NodeData → NodeData
 read_as_by message c None d = d
 read_as_by message c (Some sizes) d = read_as message c sizes d
@@ -200,7 +200,7 @@ IsDropped e = Becomes (read_as_by [] e.config (sizes_in e.memories) e.node.at) e
 abbrev pub IsReadDropped : End → End → Type 0
 IsReadDropped e = Becomes (record e.node.at { jobs = without_front e.node.at.jobs }) e
 
--- the oldest job is executed, where the end has the memories: the node and its answer, and the
+-- the oldest job is executed, if the end has the memories: the node and its answer, and the
 -- memories
 abbrev pub execution_by : Config → Kept → NodeData → (NodeData × Execution) × Kept
 execution_by c Nowhere d = ((d, not_executed), Nowhere)

@@ -52,7 +52,7 @@ closed_refusal direction from e =
     if nat_lt 1 direction then Some range
     else none_refusal (first_closed (direction_from direction) from e)
 
--- what is told behind a handle, and what stood there before where nothing is
+-- what is told behind a handle, and what stood there before if nothing is
 abbrev pub closed_told : (direction : ℕ) → (from : Name) → Option End → (before : LptName) → LptName
 closed_told direction from None before = before
 closed_told direction from (Some e) before =

@@ -27,7 +27,7 @@ state_text None = Err empty
 state_text (Some e) = Ok (state_spelled e.node)
 
 -- what is read of the end's state, by its side and configuration, is the end that a restart leaves,
--- where a number is left for one
+-- if a number is left for one
 abbrev pub ReadsAsRestarted : End → Type 0
 ReadsAsRestarted e =
     e.node.at.boot + 1 < 2 ^ 64
@@ -48,7 +48,7 @@ state_code fault.Boot = no_number
 state_code fault.Order = 118
 state_code fault.Memory = memory
 
--- the fault of a state, where there is one
+-- the fault of a state, if there is one
 abbrev pub read_refused : Result NodeView StateFault → Option ℕ
 read_refused (Ok v) = None
 read_refused (Err e) = Some (state_code e)

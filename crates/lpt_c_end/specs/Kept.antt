@@ -7,7 +7,7 @@ use Rattle.lpt_c_end.specs.Copies.{Text}
 use Rattle.lpt_c_end.specs.declared.kept.Kept.{Kept}
 use Rattle.lpt_c_end.specs.declared.kept.Kept.TheVariants.{Nowhere, Here, Elsewhere}
 
--- the identifiers and sizes of an end's memories, where it has some
+-- the identifiers and sizes of an end's memories, if it has some
 abbrev pub sizes_in : Kept → Option Sizes
 sizes_in Nowhere = None
 sizes_in (Here ms) = Some (sizes_of ms)

@@ -71,7 +71,7 @@ rebase_refusal ticks e = if can_set_back ticks e.node.at then None else Some clo
 abbrev pub give_up_refusal : Name → End → Option ℕ
 give_up_refusal name e = node_code (refusal_give_up e.node.at name)
 
--- no reception is given up
+-- no reception expires
 abbrev pub expire_refusal : End → Option ℕ
 expire_refusal e = node_code (refusal_expire e.config e.node.at)
 

@@ -27,7 +27,7 @@ view_of e = record {
   requests = length e.node.at.jobs.jobs;
 }
 
--- the same behind a handle, and what stood there before where there is none
+-- the same behind a handle, and what stood there before if there is none
 abbrev pub view_told : Option End → (before : LptView) → LptView
 view_told None before = before
 view_told (Some e) before = view_of e

@@ -13,7 +13,7 @@ use Rattle.lpt_c_end.specs.declared.end.End.{End}
 use Rattle.lpt_c_end.specs.declared.walking.LptReception.{LptReception}
 use Rattle.lpt_c_end.specs.declared.walking.LptSender.{LptSender}
 
--- where there is none nothing is told
+-- if there is none nothing is told
 abbrev pub none_refusal : {A : Type 0} → Option A → Option ℕ
 none_refusal None = Some nothing
 none_refusal (Some x) = None
@@ -28,7 +28,7 @@ reception_name number e = slice_get (map.keys e.node.at.receiving.entries) numbe
 abbrev pub reception_refusal : (number : ℕ) → End → Option ℕ
 reception_refusal number e = none_refusal (reception_name number e)
 
--- a number, where 0 says that there is none
+-- a number, of which 0 says that there is none
 abbrev pub number_in : ℕ → Option ℕ
 number_in n = if n == 0 then None else Some n
 
@@ -50,7 +50,7 @@ IsReceptionTold number said e =
 
 -- ---- parts that are missing
 
--- the answer where this is missing next, or nothing is, and what is told
+-- the answer if this is missing next, or nothing is, and what is told
 abbrev pub IsMissingWord : (missing : Option ℕ) → (code before told : ℕ) → Type 0
 IsMissingWord None code before told = (code ≡ nothing) × (told ≡ before)
 IsMissingWord (Some n) code before told = (code ≡ all_done) × (told ≡ n)
@@ -89,7 +89,7 @@ sender_of number e =
 abbrev pub sender_refusal : (number : ℕ) → End → Option ℕ
 sender_refusal number e = none_refusal (sender_of number e)
 
--- what is told behind a handle, and what stood there before where nothing is
+-- what is told behind a handle, and what stood there before if nothing is
 abbrev pub sender_told : (number : ℕ) → Option End → (before : LptSender) → LptSender
 sender_told number None before = before
 sender_told number (Some e) before = unwrap_or (sender_of number e) before

@@ -37,7 +37,7 @@ pub struct LptAccess {
 /// Says what the oldest request, which has been read, does to a memory, by a number from 0: what is
 /// written, or what is read, in this order. A request that isn't right does nothing.
 ///
-/// 0; 106 if the handle is empty; 51 if there is no request, as always on ground; 52 if
+/// It answers 0; 106 if the handle is empty; 51 if there is no request, as always on ground; 52 if
 /// the oldest wasn't read; 109 if it does no more. The end stays as it is.
 pub fn lpt_end_access(alloc: Global, end: &mut LptEnd, number: usize, access: &mut LptAccess) -> u32
     ensures code { result ≡ answer (refusal_by (access_refusal number) end.old.held.value) }
@@ -56,9 +56,9 @@ pub fn lpt_end_access(alloc: Global, end: &mut LptEnd, number: usize, access: &m
 /// Copies the octets that the oldest request, which has been read, writes by an access to the front
 /// of a buffer.
 ///
-/// 0; 106 if the handle is empty; 51 if there is no request, as always on ground; 52 if
-/// the oldest wasn't read; 109 if it writes nothing so; 103 if the buffer is too short. At 0
-/// and at 103 `needed` says how many octets there are.
+/// It answers 0; 106 if the handle is empty; 51 if there is no request, as always on ground; 52 if
+/// the oldest wasn't read; 109 if it writes nothing so; 103 if the buffer is too short. At 0 and at
+/// 103 `needed` says how many octets there are.
 pub fn lpt_end_access_octets(
     alloc: Global,
     end: &mut LptEnd,
@@ -83,9 +83,10 @@ pub fn lpt_end_access_octets(
 /// octets that they have in what it reads, those of one access behind those of the other, and none
 /// if it reads nothing. Says what became of it. Its reports are to be sent.
 ///
-/// 0; 106 if the handle is empty; 119 if the memories are in the end; 51 if there is no
+/// It answers 0; 106 if the handle is empty; 119 if the memories are in the end; 51 if there is no
 /// request, as always on ground; 52 if the oldest wasn't read; 120 if it reads more octets, or
-/// fewer; 110 if packets are to be sent first; 58 when out of memory. Then nothing has changed.
+/// fewer; 110 if packets are to be sent first; 58 when out of memory. Unless it answers 0, nothing
+/// has changed.
 pub fn lpt_end_execute_given(
     alloc: Global,
     end: &mut LptEnd,
@@ -111,8 +112,8 @@ pub fn lpt_end_execute_given(
 /// Drops the oldest request, which has been read, in place of executing it: it is never executed,
 /// and nothing is reported of it.
 ///
-/// 0; 106 if the handle is empty; 51 if there is no request, as always on ground; 52 if
-/// the oldest wasn't read. Then nothing has changed. It takes no memory.
+/// It answers 0; 106 if the handle is empty; 51 if there is no request, as always on ground; 52 if
+/// the oldest wasn't read. Unless it answers 0, nothing has changed. It takes no memory.
 pub fn lpt_end_drop_read(alloc: Global, end: &mut LptEnd) -> u32
     ensures code { result ≡ answer (refusal_by unready end.old.held.value) }
     ensures done { result ≡ 0 → IfBoth IsReadDropped end.old.held.value end.new.held.value }

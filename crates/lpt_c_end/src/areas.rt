@@ -1,4 +1,4 @@
-//! If a load goes: the areas that the oldest request asks to be written, and octets of a memory.
+//! Where a load goes: the areas that the oldest request asks to be written, and octets of a memory.
 
 ghost use Rattle.std.specs.Prelude.{◌≡◌, length};
 ghost use Rattle.lpt_packet.specs.Numbers.{IsOctets};
@@ -35,12 +35,12 @@ const MEMORY_SERVICE: u8 = 6;
 
 const LOAD: u8 = 2;
 
-/// Says if an area goes of the load that the oldest request asks for that was released and not
-/// read yet, by the area's number from 0. If the load is carried out, its areas are written just
-/// there, in their order, and nothing else is; if it is refused, nothing is.
+/// Says where an area goes, by its number from 0, of the load that the oldest request asks for that
+/// was released and not read yet. If the load is carried out, its areas are written just there, in
+/// their order, and nothing else is; if it is refused, nothing is.
 ///
-/// 0; 106 if the handle is empty; 51 if there is no such request, as always on ground; 109
-/// if it is no load, or has no such area with the checksum of its octets. The end stays as it
+/// It answers 0; 106 if the handle is empty; 51 if there is no such request, as always on ground;
+/// 109 if it is no load, or has no such area with the checksum of its octets. The end stays as it
 /// is.
 pub fn lpt_end_asked_area(alloc: Global, end: &mut LptEnd, number: usize, area: &mut LptArea) -> u32
     ensures code { result ≡ answer (refusal_by (area_refusal number) end.old.held.value) }
@@ -58,8 +58,8 @@ pub fn lpt_end_asked_area(alloc: Global, end: &mut LptEnd, number: usize, area: 
 
 /// Fills a buffer with the octets of a memory from an address on.
 ///
-/// 0; 106 if the handle is empty; 119 if the memories are with the caller; 109 if the end
-/// has no memory of this identifier; 102 if the memory has fewer octets there than the buffer.
+/// It answers 0; 106 if the handle is empty; 119 if the memories are with the caller; 109 if the
+/// end has no memory of this identifier; 102 if the memory has fewer octets there than the buffer.
 pub fn lpt_end_memory_range(
     alloc: Global,
     end: &mut LptEnd,
@@ -101,7 +101,7 @@ impl End {
     }
 }
 
-// An area of the load that octets are, where they are the packet of one with this APID.
+// An area of the load that octets are, if they are the packet of one with this APID.
 #[tactic(auto, unfolding(lpt_pus::specs::Commands::command_in))]
 fn area_in(apid: u16, octets: &[u8], number: usize) -> Option<LptArea>
     requires { IsOctets octets.now }

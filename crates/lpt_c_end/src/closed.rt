@@ -26,8 +26,8 @@ const IDS: u32 = 65_536;
 /// Tells the first closed name from `from` on, in the order of names: of sources, and of one source
 /// of identifiers; up if `direction` is 0, down if it is 1. It looks at no free name.
 ///
-/// 0; 106 if the handle is empty; 102 if the direction is above 1; 109 if no name is closed
-/// from there on: nothing is written then. The end stays as it is.
+/// It answers 0; 106 if the handle is empty; 102 if the direction is above 1; 109 if no name is
+/// closed from there on: nothing is written then. The end stays as it is.
 pub fn lpt_end_closed(
     alloc: Global,
     end: &mut LptEnd,

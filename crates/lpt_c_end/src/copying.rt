@@ -5,7 +5,7 @@ ghost use Rattle.lpt_c_end.specs.Copies.{code_for, left_by, needed_by};
 
 use crate::codes::{DONE, ROOM};
 
-// Copies octets to the front of a buffer, where they have room, and says how many there are.
+// Copies octets to the front of a buffer, if they have room, and says how many there are.
 pub(crate) fn copy_out(octets: &[u8], out: &mut [u8], needed: &mut usize) -> u32
     ensures code { result ≡ code_for (Ok octets.now) out.old }
     ensures buffer { out.new ≡ left_by (Ok octets.now) out.old }

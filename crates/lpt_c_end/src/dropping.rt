@@ -20,7 +20,7 @@ use std::alloc::Global;
 /// Says which service type and message subtype the oldest request has that was released and not
 /// read yet, if it is a telecommand of the end's APID.
 ///
-/// 0; 106 if the handle is empty; 51 if there is none, as always on ground; 109 if it is
+/// It answers 0; 106 if the handle is empty; 51 if there is none, as always on ground; 109 if it is
 /// no such telecommand. The end stays as it is.
 pub fn lpt_end_asked(alloc: Global, end: &mut LptEnd, service: &mut u8, subtype: &mut u8) -> u32
     ensures code { result ≡ answer (refusal_by asked_refusal end.old.held.value) }
@@ -41,8 +41,8 @@ pub fn lpt_end_asked(alloc: Global, end: &mut LptEnd, service: &mut u8, subtype:
 /// never executed. What stands in its place asks nothing, and `lpt_end_execute` discards it
 /// in its turn, with no report.
 ///
-/// 0; 106 if the handle is empty; 51 if there is none, as always on ground; 58 when out of
-/// memory. Then nothing has changed.
+/// It answers 0; 106 if the handle is empty; 51 if there is none, as always on ground; 58 when out
+/// of memory. Unless it answers 0, nothing has changed.
 pub fn lpt_end_drop(alloc: Global, end: &mut LptEnd) -> u32
     ensures code { IsAnswer (refusal_by read_refusal end.old.held.value) result }
     ensures done { result ≡ 0 → IfBoth IsDropped end.old.held.value end.new.held.value }
@@ -76,7 +76,7 @@ impl End {
     }
 }
 
-// The service type and the message subtype of the telecommand that octets are, where they are the
+// The service type and the message subtype of the telecommand that octets are, if they are the
 // packet of one with this APID.
 #[tactic(auto, unfolding(lpt_pus::specs::Commands::command_in))]
 fn types_in(apid: u16, octets: &[u8]) -> Option<(u8, u8)>

@@ -1,5 +1,5 @@
-//! The requests that the spacecraft's end released: their reading, their execution, and the memory
-//! over which that goes.
+//! The requests that the spacecraft's end released: their reading, their execution, and the
+//! memories over which they are executed.
 
 ghost use Rattle.std.specs.Prelude.{◌≡◌, Ok, Err, MatchResult};
 ghost use Rattle.lpt_c_end.specs.Calls.{IfBoth, IfHeld, IsApplied, memory_in};
@@ -23,8 +23,8 @@ use std::collections::VecDeque;
 
 /// Reads the oldest request that was released and not read yet.
 ///
-/// 0; 106 if the handle is empty; 51 if there is none, as always on ground; 58 when out of
-/// memory. Then nothing has changed.
+/// It answers 0; 106 if the handle is empty; 51 if there is none, as always on ground; 58 when out
+/// of memory. Unless it answers 0, nothing has changed.
 pub fn lpt_end_read(alloc: Global, end: &mut LptEnd) -> u32
     ensures code { IsAnswer (refusal_by read_refusal end.old.held.value) result }
     ensures done { result ≡ 0 → IfBoth IsRead end.old.held.value end.new.held.value }
@@ -41,9 +41,9 @@ pub fn lpt_end_read(alloc: Global, end: &mut LptEnd) -> u32
 /// Executes the oldest request, which has been read: does what it asks of a memory, and says what
 /// became of it. Its reports are to be sent.
 ///
-/// 0; 106 if the handle is empty; 119 if the memories are with the caller; 51 if there is no
-/// request, as always on ground; 52 if the oldest wasn't read; 110 if packets are to be
-/// sent first; 58 when out of memory. Then nothing has changed.
+/// It answers 0; 106 if the handle is empty; 119 if the memories are with the caller; 51 if there
+/// is no request, as always on ground; 52 if the oldest wasn't read; 110 if packets are to be sent
+/// first; 58 when out of memory. Unless it answers 0, nothing has changed.
 pub fn lpt_end_execute(alloc: Global, end: &mut LptEnd, applied: &mut LptApplied) -> u32
     ensures code { IsAnswer (refusal_by execute_refusal end.old.held.value) result }
     ensures done { result ≡ 0 → IfBoth IsExecuted end.old.held.value end.new.held.value }
@@ -61,8 +61,8 @@ pub fn lpt_end_execute(alloc: Global, end: &mut LptEnd, applied: &mut LptApplied
 
 /// Copies a memory to the front of a buffer.
 ///
-/// 0; 106 if the handle is empty; 119 if the memories are with the caller; 109 if the end
-/// has no memory of this identifier; 103 if the buffer is too short. At 0 and at 103 `needed`
+/// It answers 0; 106 if the handle is empty; 119 if the memories are with the caller; 109 if the
+/// end has no memory of this identifier; 103 if the buffer is too short. At 0 and at 103 `needed`
 /// says how many octets the memory has.
 pub fn lpt_end_memory(
     alloc: Global,

@@ -27,8 +27,8 @@ use std::alloc::Global;
 /// Copies the state of the end to the front of a buffer: what of it outlasts a restart. An end that
 /// is made of it is the one that a restart would leave.
 ///
-/// 0; 106 if the handle is empty; 103 if the buffer is too short. At 0 and at 103 `needed`
-/// says how many octets the state has. It takes no memory.
+/// It answers 0; 106 if the handle is empty; 103 if the buffer is too short. At 0 and at 103
+/// `needed` says how many octets the state has. It takes no memory.
 pub fn lpt_end_state(alloc: Global, end: &mut LptEnd, out: &mut [u8], needed: &mut usize) -> u32
     ensures code { result ≡ code_for (state_text end.old.held.value) out.old }
     ensures buffer { out.new ≡ left_by (state_text end.old.held.value) out.old }
@@ -47,12 +47,12 @@ pub fn lpt_end_state(alloc: Global, end: &mut LptEnd, out: &mut [u8], needed: &m
 /// Makes an end of a state, and writes its address: what a restart leaves of the end whose state it
 /// is, with these memories, as `lpt_end_new` takes them.
 ///
-/// 0; 102 if the side or the mode is above 1; 71 to 75, the first value of the configuration
-/// that is out of its range; 25 if a spacecraft can't have these memories; then of the state
-/// 111, it is cut short; 112, it isn't one; 113, it is of another version; 114, it is cut, or has
-/// octets behind it; 115, it is the other side's; 116, it is another configuration's; 117, its
-/// checksum is wrong; 108, no number is left for a start; 118, its names are out of order; 58 when
-/// out of memory. The address is written only at 0.
+/// It answers 0; 102 if the side or the mode is above 1; 71 to 75, the first value of the
+/// configuration that is out of its range; 25 if a spacecraft can't have these memories; then of
+/// the state 111, it is cut short; 112, it isn't one; 113, it is of another version; 114, it is
+/// cut, or has octets behind it; 115, it is the other side's; 116, it is another configuration's;
+/// 117, its checksum is wrong; 108, no number is left for a start; 118, its names are out of order;
+/// 58 when out of memory. The address is written only at 0.
 pub fn lpt_end_resume(
     alloc: Global,
     end: &mut LptAddress,

@@ -1,4 +1,4 @@
-//! If an end's memories are.
+//! Where an end's memories are.
 
 ghost use Rattle.std.specs.Prelude.{◌≡◌, None, IfOk, IfErr, Some};
 ghost use Rattle.lpt_c_end.specs.Codes.{IsAnswer};
@@ -7,7 +7,7 @@ ghost use Rattle.lpt_c_end.specs.Kept.{memories_refusal, sizes_in};
 use crate::codes::{MEMORY, NO_JOB};
 use lpt_memory::{Memories, Shape};
 
-/// If an end's memories are.
+/// Where an end's memories are.
 #[derive(Drop)]
 pub(crate) enum Kept {
     /// Nowhere: ground has none.

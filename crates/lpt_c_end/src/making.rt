@@ -1,4 +1,4 @@
-//! A new end, and its end.
+//! Making an end, and letting it go.
 
 ghost use Rattle.std.specs.Prelude.{◌≡◌, None, IfOk, IfErr, OnOk};
 ghost use Rattle.lpt_events.specs.Configs.{IsConfig};
@@ -26,10 +26,10 @@ use std::collections::VecDeque;
 /// Makes an end, and writes its address: of ground if `side` is 0, of the spacecraft if it is
 /// 1, then with these memories, which begin with octets of the content. Those are copied.
 ///
-/// 0; 102 if the side or the mode is above 1; 71 to 75, the first value of the configuration
-/// that is out of its range; 25 if the memories of a spacecraft aren't 1 to 16 with distinct
-/// identifiers, of 1 to 1,048,576 octets each, all of the content; 58 when out of memory. The
-/// address is written only at 0.
+/// It answers 0; 102 if the side or the mode is above 1; 71 to 75, the first value of the
+/// configuration that is out of its range; 25 if the memories of a spacecraft aren't 1 to 16 with
+/// distinct identifiers, of 1 to 1,048,576 octets each, all of the content; 58 when out of memory.
+/// The address is written only at 0.
 pub fn lpt_end_new(
     alloc: Global,
     end: &mut LptAddress,

@@ -34,7 +34,7 @@ impl End {
     }
 }
 
-// Puts a packet, where there is one, behind those that are to be sent.
+// Puts a packet, if there is one, behind those that are to be sent.
 pub(crate) fn put_last(outbox: &mut VecDeque<Octets>, packet: Option<Octets>)
     requires { deque_len outbox.old < deque_capacity outbox.old }
     ensures { outbox.new.items ≡ outbox.old.items ++ option_to_list packet }

@@ -22,8 +22,8 @@ use std::alloc::{AllocError, Global};
 
 /// Takes the octets of a packet that was delivered to this end, and says what became of them.
 ///
-/// 0; 106 if the handle is empty; 108 if no number is left for a job; 58 when out of memory.
-/// Then nothing has changed.
+/// It answers 0; 106 if the handle is empty; 108 if no number is left for a job; 58 when out of
+/// memory. Unless it answers 0, nothing has changed.
 pub fn lpt_end_packet(
     alloc: Global,
     end: &mut LptEnd,
@@ -46,8 +46,8 @@ pub fn lpt_end_packet(
 
 /// Copies the message that the last packet released to the front of a buffer.
 ///
-/// 0; 106 if the handle is empty; 109 if the last packet released none; 103 if the buffer
-/// is too short. At 0 and at 103 `needed` says how many octets the message has.
+/// It answers 0; 106 if the handle is empty; 109 if the last packet released none; 103 if the
+/// buffer is too short. At 0 and at 103 `needed` says how many octets the message has.
 pub fn lpt_end_released(alloc: Global, end: &mut LptEnd, out: &mut [u8], needed: &mut usize) -> u32
     ensures code { result ≡ code_for (released_of end.old.held.value) out.old }
     ensures buffer { out.new ≡ left_by (released_of end.old.held.value) out.old }
@@ -65,11 +65,11 @@ pub fn lpt_end_released(alloc: Global, end: &mut LptEnd, out: &mut [u8], needed:
     code
 }
 
-/// Gives the reception up that is due, and writes its name; at the spacecraft a report of it is to
-/// be sent.
+/// Ends the reception that is due, and writes its name; at the spacecraft a report of it is to be
+/// sent.
 ///
-/// 0; 106 if the handle is empty; 50 if none is due; 58 when out of memory. Then nothing has
-/// changed.
+/// It answers 0; 106 if the handle is empty; 50 if none is due; 58 when out of memory. Unless it
+/// answers 0, nothing has changed.
 pub fn lpt_end_expire(alloc: Global, end: &mut LptEnd, name: &mut LptName) -> u32
     ensures code { IsAnswer (refusal_by expire_refusal end.old.held.value) result }
     ensures done { result ≡ 0 → IfBoth IsExpired end.old.held.value end.new.held.value }
@@ -85,11 +85,11 @@ pub fn lpt_end_expire(alloc: Global, end: &mut LptEnd, name: &mut LptName) -> u3
     code
 }
 
-/// Gives the open reception of a name up before its time, as `lpt_end_expire` does one that is due;
+/// Gives the open reception of a name up before its time, as `lpt_end_expire` ends one that is due;
 /// at the spacecraft a report of it is to be sent.
 ///
-/// 0; 106 if the handle is empty; 45 if no reception of the name is open; 58 when out of memory.
-/// Then nothing has changed.
+/// It answers 0; 106 if the handle is empty; 45 if no reception of the name is open; 58 when out of
+/// memory. Unless it answers 0, nothing has changed.
 pub fn lpt_end_give_up(alloc: Global, end: &mut LptEnd, name: &LptName) -> u32
     ensures code { IsAnswer (refusal_by (give_up_refusal (name_from name.now)) end.old.held.value) result }
     ensures done { result ≡ 0
@@ -146,7 +146,7 @@ impl End {
         Ok(outcome)
     }
 
-    // Gives the reception up that is due, and writes its name.
+    // Ends the reception that is due, and writes its name.
     fn expire(&mut self, name: &mut LptName) -> u32
         ensures code { IsAnswer (expire_refusal self.old) result }
         ensures done { result ≡ 0 → IsExpired self.old self.new }

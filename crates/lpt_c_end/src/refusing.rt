@@ -23,9 +23,9 @@ use std::collections::VecDeque;
 /// and its source is told that it failed, with the failure code of this number. Says so, as an
 /// execution that is refused does. What is no telecommand with the end's APID has no report.
 ///
-/// 0; 106 if the handle is empty; 102 if no failure code has the number, which is 1 to 8; 51 if
-/// there is no request, as always on ground; 52 if the oldest wasn't read; 110 if packets are to be
-/// sent first; 58 when out of memory. Then nothing has changed.
+/// It answers 0; 106 if the handle is empty; 102 if no failure code has the number, which is 1 to
+/// 8; 51 if there is no request, as always on ground; 52 if the oldest wasn't read; 110 if packets
+/// are to be sent first; 58 when out of memory. Unless it answers 0, nothing has changed.
 pub fn lpt_end_refuse(alloc: Global, end: &mut LptEnd, number: u16, applied: &mut LptApplied) -> u32
     ensures code { IsAnswer (refusal_by (refuse_refusal number) end.old.held.value) result }
     ensures done { result ≡ 0 → IfBoth (IsRefused number) end.old.held.value end.new.held.value }

@@ -18,9 +18,9 @@ use std::alloc::Global;
 /// Makes the packet of a plain request, of this source, these acknowledgement flags, service type,
 /// message subtype and body: it is to be sent. Ground alone makes them.
 ///
-/// 0; 106 if the handle is empty; 102 if the flags are above 15, and at the spacecraft; 60
-/// if the types are those of a part; 43 if the packet would have more octets than the part
-/// size and 23; 58 when out of memory. Then nothing has changed.
+/// It answers 0; 106 if the handle is empty; 102 if the flags are above 15, and at the spacecraft;
+/// 60 if the types are those of a part; 43 if the packet would have more octets than the part size
+/// and 23; 58 when out of memory. Unless it answers 0, nothing has changed.
 pub fn lpt_end_plain(
     alloc: Global,
     end: &mut LptEnd,

@@ -20,8 +20,8 @@ use std::alloc::Global;
 
 /// Takes a message to be sent under a free name. It is copied.
 ///
-/// 0; 106 if the handle is empty; 41 to 44, the first fault that applies; 58 when out of memory.
-/// Then nothing has changed.
+/// It answers 0; 106 if the handle is empty; 41 to 44, the first fault that applies; 58 when out of
+/// memory. Unless it answers 0, nothing has changed.
 pub fn lpt_end_open(alloc: Global, end: &mut LptEnd, name: &LptName, message: &[u8]) -> u32
     ensures code { IsAnswer (refusal_by (open_refusal (name_from name.now) message.now) end.old.held.value)
         result }
@@ -39,8 +39,8 @@ pub fn lpt_end_open(alloc: Global, end: &mut LptEnd, name: &LptName, message: &[
 
 /// Makes the packet of the part of a number, from 1, of an open message: it is to be sent.
 ///
-/// 0; 106 if the handle is empty; 45 if no message of this name is open; 46 if it has no
-/// such part; 58 when out of memory. Then nothing has changed.
+/// It answers 0; 106 if the handle is empty; 45 if no message of this name is open; 46 if it has no
+/// such part; 58 when out of memory. Unless it answers 0, nothing has changed.
 pub fn lpt_end_part(alloc: Global, end: &mut LptEnd, name: &LptName, number: u16) -> u32
     ensures code { IsAnswer (refusal_by (part_refusal (name_from name.now) number) end.old.held.value) result }
     ensures done { result ≡ 0
@@ -57,8 +57,8 @@ pub fn lpt_end_part(alloc: Global, end: &mut LptEnd, name: &LptName, number: u16
 
 /// Closes an open message, and frees its memory.
 ///
-/// 0; 106 if the handle is empty; 45 if no message of this name is open: nothing has changed
-/// then.
+/// It answers 0; 106 if the handle is empty; 45 if no message of this name is open: nothing has
+/// changed then.
 pub fn lpt_end_finish(alloc: Global, end: &mut LptEnd, name: &LptName) -> u32
     ensures code { result
         ≡ answer (refusal_by (finish_refusal (name_from name.now)) end.old.held.value) }
@@ -76,7 +76,7 @@ pub fn lpt_end_finish(alloc: Global, end: &mut LptEnd, name: &LptName) -> u32
 
 /// Copies the packet that is to be sent first to the front of a buffer. It stays to be sent.
 ///
-/// 0; 106 if the handle is empty; 109 if none is to be sent; 103 if the buffer is too
+/// It answers 0; 106 if the handle is empty; 109 if none is to be sent; 103 if the buffer is too
 /// short. At 0 and at 103 `needed` says how many octets the packet has.
 pub fn lpt_end_outgoing(alloc: Global, end: &mut LptEnd, out: &mut [u8], needed: &mut usize) -> u32
     ensures code { result ≡ code_for (outgoing_of end.old.held.value) out.old }
@@ -97,7 +97,7 @@ pub fn lpt_end_outgoing(alloc: Global, end: &mut LptEnd, out: &mut [u8], needed:
 
 /// Lets the packet go that is to be sent first.
 ///
-/// 0; 106 if the handle is empty; 109 if none is to be sent: nothing has changed then.
+/// It answers 0; 106 if the handle is empty; 109 if none is to be sent: nothing has changed then.
 pub fn lpt_end_sent(alloc: Global, end: &mut LptEnd) -> u32
     ensures code { result ≡ answer (refusal_by sent_refusal end.old.held.value) }
     ensures done { result ≡ 0 → IfBoth IsLetGo end.old.held.value end.new.held.value }

@@ -19,7 +19,7 @@ use std::alloc::Global;
 
 /// Sets the clock one tick on.
 ///
-/// 0; 106 if the handle is empty; 56 if the clock is at its greatest value: nothing has
+/// It answers 0; 106 if the handle is empty; 56 if the clock is at its greatest value: nothing has
 /// changed then.
 pub fn lpt_end_tick(alloc: Global, end: &mut LptEnd) -> u32
     ensures code { result ≡ answer (refusal_by tick_refusal end.old.held.value) }
@@ -35,10 +35,10 @@ pub fn lpt_end_tick(alloc: Global, end: &mut LptEnd) -> u32
 }
 
 /// Sets the clock as many ticks on at once: what as many calls of `lpt_end_tick` do that answer 0.
-/// No reception is given up meanwhile.
+/// No reception expires meanwhile.
 ///
-/// 0; 106 if the handle is empty; 56 if the clock would go past its greatest value: nothing has
-/// changed then, and `lpt_end_view` says how many ticks are left.
+/// It answers 0; 106 if the handle is empty; 56 if the clock would go past its greatest value:
+/// nothing has changed then, and `lpt_end_view` says how many ticks are left.
 pub fn lpt_end_tick_many(alloc: Global, end: &mut LptEnd, ticks: u32) -> u32
     ensures code { result ≡ answer (refusal_by (ticks_refusal ticks) end.old.held.value) }
     ensures done { result ≡ 0 → IfBoth (IsTickedBy ticks) end.old.held.value end.new.held.value }
@@ -56,8 +56,8 @@ pub fn lpt_end_tick_many(alloc: Global, end: &mut LptEnd, ticks: u32) -> u32
 /// how long it is until then stays the same, and so does all else. So a clock doesn't come to its
 /// end.
 ///
-/// 0; 106 if the handle is empty; 125 if the clock is below that, or an open reception last took a
-/// part at a tick below that: nothing has changed then.
+/// It answers 0; 106 if the handle is empty; 125 if the clock is below that, or an open reception
+/// last took a part at a tick below that: nothing has changed then.
 pub fn lpt_end_rebase(alloc: Global, end: &mut LptEnd, ticks: u32) -> u32
     ensures code { result ≡ answer (refusal_by (rebase_refusal ticks) end.old.held.value) }
     ensures done { result ≡ 0 → IfBoth (IsRebased ticks) end.old.held.value end.new.held.value }
@@ -74,9 +74,9 @@ pub fn lpt_end_rebase(alloc: Global, end: &mut LptEnd, ticks: u32) -> u32
 /// Makes the name of a transaction free at this end, so that it can be used again: up if
 /// `direction` is 0, down if it is 1. A name that is free stays so.
 ///
-/// 0; 106 if the handle is empty; 102 if the direction is above 1; 55 if the end sends in this
-/// direction and a message of this name is open, or receives in it and a reception of this name is:
-/// nothing has changed then.
+/// It answers 0; 106 if the handle is empty; 102 if the direction is above 1; 55 if the end sends
+/// in this direction and a message of this name is open, or receives in it and a reception of this
+/// name is: nothing has changed then.
 pub fn lpt_end_retire(alloc: Global, end: &mut LptEnd, direction: u32, name: &LptName) -> u32
     ensures code { result ≡ answer (refusal_by (retire_refusal direction (name_from name.now)) end.old.held.value) }
     ensures done { result ≡ 0
@@ -95,7 +95,8 @@ pub fn lpt_end_retire(alloc: Global, end: &mut LptEnd, direction: u32, name: &Lp
 /// `direction` is 0, down if it is 1. In the direction in which the end sends that is its
 /// message's; in the other its reception's, which is closed once it has ended.
 ///
-/// 0; 106 if the handle is empty; 102 if the direction is above 1. The end stays as it is.
+/// It answers 0; 106 if the handle is empty; 102 if the direction is above 1. The end stays as it
+/// is.
 pub fn lpt_end_name(
     alloc: Global,
     end: &mut LptEnd,
@@ -126,8 +127,8 @@ pub fn lpt_end_name(
 /// dropped, and it counts from 0 again. It knows the names and the clock as before. What was
 /// released last, and the packets that are to be sent, stay.
 ///
-/// 0; 106 if the handle is empty; 108 if no number is left for a start: nothing has changed
-/// then.
+/// It answers 0; 106 if the handle is empty; 108 if no number is left for a start: nothing has
+/// changed then.
 pub fn lpt_end_restart(alloc: Global, end: &mut LptEnd) -> u32
     ensures code { result ≡ answer (refusal_by restart_refusal end.old.held.value) }
     ensures done { result ≡ 0 → IfBoth IsRestarted end.old.held.value end.new.held.value }
@@ -198,7 +199,7 @@ impl End {
         DONE
     }
 
-    // The state of a name, by its number, in this direction, where that is one.
+    // The state of a name, by its number, in this direction, if that is one.
     fn name_state(&self, direction: u32, name: Name) -> Option<u32>
         ensures { result ≡ state_of direction name self.now }
     {

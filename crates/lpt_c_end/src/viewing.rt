@@ -17,22 +17,22 @@ use std::alloc::Global;
 pub struct LptView {
     /// The clock, in ticks.
     pub clock: u32,
-    /// 1 if a reception is due, else 0.
+    /// 1 if a reception is due, otherwise 0.
     pub due: u32,
-    /// The value of the clock from which on one is, 0 if no reception is open.
+    /// The value of the clock from which on one is due; 0 if no reception is open.
     pub next_due: u64,
     /// How many packets are to be sent.
     pub outgoing: usize,
     /// How many requests weren't read.
     pub unread: usize,
-    /// How many weren't executed, read or not.
+    /// How many requests weren't executed, whether read or not.
     pub requests: usize,
 }
 
 /// Tells the clock, whether a reception is due and when the next one is, and how many packets and
 /// requests wait.
 ///
-/// 0; 106 if the handle is empty. The end stays as it is.
+/// It answers 0; 106 if the handle is empty. The end stays as it is.
 pub fn lpt_end_view(alloc: Global, end: &mut LptEnd, view: &mut LptView) -> u32
     ensures code { result ≡ answer (refusal_by (λ e. None) end.old.held.value) }
     ensures view { view.new ≡ view_told end.old.held.value view.old }

@@ -47,8 +47,8 @@ pub struct LptSender {
 /// Tells an open reception by its number, from 0, in the order of names: of sources, and of one
 /// source of identifiers.
 ///
-/// 0; 106 if the handle is empty; 109 if no more are open: nothing is written then. The end
-/// stays as it is.
+/// It answers 0; 106 if the handle is empty; 109 if no more are open: nothing is written then. The
+/// end stays as it is.
 pub fn lpt_end_reception(
     alloc: Global,
     end: &mut LptEnd,
@@ -77,7 +77,7 @@ pub fn lpt_end_reception(
 /// Tells the least number from `from` on of a part that is missing of an open reception: one that
 /// wasn't kept, from 1 on and before the last part, if that has come.
 ///
-/// 0; 106 if the handle is empty; 45 if no reception of the name is open; 109 if none is
+/// It answers 0; 106 if the handle is empty; 45 if no reception of the name is open; 109 if none is
 /// missing from there on: nothing is written then. The end stays as it is.
 pub fn lpt_end_missing(
     alloc: Global,
@@ -100,8 +100,8 @@ pub fn lpt_end_missing(
 
 /// Tells a message that is open to be sent by its number, from 0, in the order of names.
 ///
-/// 0; 106 if the handle is empty; 109 if no more are open: nothing is written then. The end
-/// stays as it is.
+/// It answers 0; 106 if the handle is empty; 109 if no more are open: nothing is written then. The
+/// end stays as it is.
 pub fn lpt_end_sender(alloc: Global, end: &mut LptEnd, number: usize, sender: &mut LptSender) -> u32
     ensures code { result ≡ answer (refusal_by (sender_refusal number) end.old.held.value) }
     ensures sender { sender.new ≡ sender_told number end.old.held.value sender.old }

@@ -17,7 +17,7 @@ pub struct LptName {
     pub id: u16,
 }
 
-// The name that is told where there is none.
+// The name that is told if there is none.
 const NO_NAME: Name = Name { source: 0, id: 0 };
 
 /// What is fixed of an end; the ranges are those of a world's configuration.

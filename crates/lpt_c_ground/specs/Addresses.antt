@@ -14,7 +14,7 @@ abbrev pub address_owns : Global → Ptr → Option the_row.Denot → Fml
 address_owns alloc at None = ftrue
 address_owns alloc at (Some value) = box_owns (ghosts.dealloc_token alloc) the_row at value
 
--- the pass in the handle at an address, where there is one
+-- the pass in the handle at an address, if there is one
 abbrev pub ground_at : Option LptGround → Option Ground
 ground_at handle = option_and_then (λ h. h.held.value) handle
 

@@ -45,7 +45,7 @@ step_word (Stop e) = end_word e
 abbrev pub step_of : Ground → Step
 step_of g = next_step (state_of g.pass)
 
--- the same as a number behind a handle, and what stood there before where there is no pass
+-- the same as a number behind a handle, and what stood there before if there is no pass
 abbrev pub step_told : Option Ground → (before : ℕ) → ℕ
 step_told None before = before
 step_told (Some g) before = step_word (step_of g)
@@ -73,7 +73,7 @@ sent_refusal g = unsent_by (step_of g)
 
 -- ---- what becomes of a pass
 
--- it is where a pass comes that is answered so: that nothing has come, where it sends; a packet
+-- it is where a pass comes that is answered so: that nothing has come, if it sends; a packet
 -- that came; that none did for the wait; or that none will come any more
 pub record Goes (a : Answer) (g new : Ground) : Type 0 where
   pub state : state_of new.pass ≡ state_answered g.pass.terms (state_of g.pass) a

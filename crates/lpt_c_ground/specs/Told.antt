@@ -14,7 +14,7 @@ use Rattle.lpt_c_ground.specs.declared.grounds.Ground.{Ground}
 use Rattle.lpt_c_ground.specs.declared.telling.LptFate.{LptFate}
 use Rattle.lpt_c_ground.specs.declared.telling.LptProgress.{LptProgress}
 
--- why a request failed, as a number: its code, or 65536 where none is read
+-- why a request failed, as a number: its code, or 65536 if none is read
 abbrev pub notice_word : FailureNotice → ℕ
 notice_word (Code code) = code
 notice_word Unread = 65536
@@ -40,7 +40,7 @@ progress_of asked = record {
   left = count_by (has_state 0) asked;
 }
 
--- those behind a handle, and what stood there before where there is no pass
+-- those behind a handle, and what stood there before if there is no pass
 abbrev pub progress_told : Option Ground → (before : LptProgress) → LptProgress
 progress_told None before = before
 progress_told (Some g) before = progress_of g.pass.asked.items
@@ -83,7 +83,7 @@ abbrev pub report_told : (number : ℕ) → Option Ground → Text
 report_told number None = Err empty
 report_told number (Some g) = report_by (fate_of number g)
 
--- the octets of a dump in a packet, where there is one
+-- the octets of a dump in a packet, if there is one
 abbrev pub dump_in : Text → Text
 dump_in (Ok o) = Ok (octets_in o)
 dump_in (Err fault) = Err fault

@@ -14,7 +14,8 @@ use std::alloc::Global;
 /// Takes the octets of a packet that came. The first request that they settle has its fate then;
 /// octets that settle none are passed over.
 ///
-/// 0; 106 if the handle is empty; 58 when out of memory. Then nothing has changed.
+/// It answers 0; 106 if the handle is empty; 58 when out of memory. Unless it answers 0, nothing
+/// has changed.
 pub fn lpt_ground_packet(alloc: Global, pass: &mut LptGround, octets: &[u8]) -> u32
     ensures code { IsAnswer (refusal_by (λ g. None) pass.old.held.value) result }
     ensures done { result ≡ 0
@@ -31,7 +32,7 @@ pub fn lpt_ground_packet(alloc: Global, pass: &mut LptGround, octets: &[u8]) -> 
 
 /// Takes it that no packet came for as long as the pass waits: a new round begins.
 ///
-/// 0; 106 if the handle is empty.
+/// It answers 0; 106 if the handle is empty.
 pub fn lpt_ground_quiet(alloc: Global, pass: &mut LptGround) -> u32
     ensures code { result ≡ answer (refusal_by (λ g. None) pass.old.held.value) }
     ensures done { IfBoth (Goes Quiet) pass.old.held.value pass.new.held.value }
@@ -46,7 +47,7 @@ pub fn lpt_ground_quiet(alloc: Global, pass: &mut LptGround) -> u32
 
 /// Takes it that no packet will come any more: the pass is at its end.
 ///
-/// 0; 106 if the handle is empty.
+/// It answers 0; 106 if the handle is empty.
 pub fn lpt_ground_close(alloc: Global, pass: &mut LptGround) -> u32
     ensures code { result ≡ answer (refusal_by (λ g. None) pass.old.held.value) }
     ensures done { IfBoth (Goes Over) pass.old.held.value pass.new.held.value }

@@ -53,8 +53,8 @@ pub(crate) enum JobKind {
 /// How many octets a check is of at most: of so many a checksum shows any three wrong bits.
 const CHECK_EACH: u16 = 4_000;
 
-/// So many octets more than the load of as many has, the report of a dump has; and the report of a
-/// check has as many as the load of so many.
+/// How many octets more a dump's report has than the load of the same octets. A check's report is
+/// as long as the load of so many octets.
 const LESS: u32 = 6;
 
 /// The greatest APID, sequence count, acknowledgement flags and part size.

@@ -4,9 +4,9 @@ ghost use Rattle.lpt_c_ground.specs.Calls.{CallsCarryAPass, CompletedWasTold};
 
 use lpt_ground::laws::done_is_told;
 
-/// After any calls that answered 0 a pass is where one comes that was answered so:
-/// `lpt_ground_sent` that nothing has come, `lpt_ground_packet` that packet, `lpt_ground_quiet`
-/// that none came for the wait, `lpt_ground_close` that none will come.
+/// After any calls that answered 0, a pass is where it comes by what they tell it:
+/// `lpt_ground_sent` tells it that nothing has come, `lpt_ground_packet` that this packet came,
+/// `lpt_ground_quiet` that none came for the wait, and `lpt_ground_close` that none will come.
 pub fn calls_carry_a_pass()
     ensures { CallsCarryAPass }
 {}

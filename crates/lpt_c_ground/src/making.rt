@@ -1,4 +1,4 @@
-//! A new pass, and its end.
+//! Making a pass, and letting it go.
 
 ghost use Rattle.std.specs.Prelude.{◌≡◌, ◌≤◌, None, IfOk, IfErr, IfSome, IsTrue, length};
 ghost use Rattle.lpt_c_ground.specs.Addresses.{ground_at, NullIfNone};
@@ -24,10 +24,10 @@ use std::alloc::Global;
 /// those of one place behind those of the other, and are copied; a dump and a check look at no
 /// content.
 ///
-/// 0; 102 if a number of the job is out of its range; 28 if there is no place, or one has no octets
-/// or ends behind the last address; 121 if it takes more requests than a pass has, 16,384; 102 if
-/// the content of a load isn't as long as its places together; 28 if two places of a load share an
-/// address; 58 when out of memory. The address is written only at 0.
+/// It answers 0; 102 if a number of the job is out of its range; 28 if there is no place, or one
+/// has no octets or ends behind the last address; 121 if it takes more requests than a pass has,
+/// 16,384; 102 if the content of a load isn't as long as its places together; 28 if two places of a
+/// load share an address; 58 when out of memory. The address is written only at 0.
 pub fn lpt_ground_new(
     alloc: Global,
     pass: &mut LptGroundAddress,

@@ -13,12 +13,12 @@ use crate::handle::{LptGround, put, take};
 use lpt_ground::{End, Step};
 use std::alloc::Global;
 
-/// Says what the pass does next: 1, it sends a packet; 2, it listens; else it is at its end: 3,
-/// each request was carried out, and if something was asked, answered; 4, each is settled, and
+/// Says what the pass does next: 1, it sends a packet; 2, it listens; otherwise it is at its end:
+/// 3, each request was carried out, and if something was asked, answered; 4, each is settled, and
 /// some failed; 5, some are open, and too many waits in a row settled nothing; 6, some are open,
 /// and nothing more will come.
 ///
-/// 0; 106 if the handle is empty. The pass stays as it is.
+/// It answers 0; 106 if the handle is empty. The pass stays as it is.
 pub fn lpt_ground_next(alloc: Global, pass: &mut LptGround, step: &mut u32) -> u32
     ensures code { result ≡ answer (refusal_by (λ g. None) pass.old.held.value) }
     ensures step { step.new ≡ step_told pass.old.held.value step.old }
@@ -34,8 +34,8 @@ pub fn lpt_ground_next(alloc: Global, pass: &mut LptGround, step: &mut u32) -> u
 
 /// Copies the packet that is to be sent next to the front of a buffer. It stays to be sent.
 ///
-/// 0; 106 if the handle is empty; 109 if none is to be sent now; 103 if the buffer is too short. At
-/// 0 and at 103 `needed` says how many octets the packet has.
+/// It answers 0; 106 if the handle is empty; 109 if none is to be sent now; 103 if the buffer is
+/// too short. At 0 and at 103 `needed` says how many octets the packet has.
 pub fn lpt_ground_outgoing(
     alloc: Global,
     pass: &mut LptGround,
@@ -57,7 +57,7 @@ pub fn lpt_ground_outgoing(
 
 /// Takes it that the packet that was to be sent next was sent, or was lost on its way.
 ///
-/// 0; 106 if the handle is empty; 109 if none was to be sent: nothing has changed then.
+/// It answers 0; 106 if the handle is empty; 109 if none was to be sent: nothing has changed then.
 pub fn lpt_ground_sent(alloc: Global, pass: &mut LptGround) -> u32
     ensures code { result ≡ answer (refusal_by sent_refusal pass.old.held.value) }
     ensures done { result ≡ 0 → IfBoth (Goes Nothing) pass.old.held.value pass.new.held.value }

@@ -18,13 +18,13 @@ use std::alloc::Global;
 #[repr(C)]
 #[derive(Clone, Copy)]
 pub struct LptProgress {
-    /// All of them.
+    /// How many there are.
     pub requests: usize,
-    /// Those that were carried out, and if something was asked, answered.
+    /// How many were carried out and, if something was asked, answered.
     pub completed: usize,
-    /// Those that failed.
+    /// How many failed.
     pub failed: usize,
-    /// Those of which nothing is known.
+    /// Of how many nothing is known.
     pub left: usize,
 }
 
@@ -41,7 +41,8 @@ pub struct LptFate {
 /// What is told of a failure whose code isn't read.
 const UNREAD: u32 = 65_536;
 
-/// So many octets of a report's packet stand in front of a dump's octets, and behind them.
+/// How many octets of a report's packet stand in front of a dump's octets, and how many behind
+/// them.
 const DUMP_FRONT: usize = 25;
 
 const DUMP_END: usize = 4;
@@ -49,7 +50,7 @@ const DUMP_END: usize = 4;
 /// Tells how many requests the pass has, and how many of them were carried out, failed, and are
 /// open.
 ///
-/// 0; 106 if the handle is empty. The pass stays as it is.
+/// It answers 0; 106 if the handle is empty. The pass stays as it is.
 pub fn lpt_ground_progress(alloc: Global, pass: &mut LptGround, progress: &mut LptProgress) -> u32
     ensures code { result ≡ answer (refusal_by (λ g. None) pass.old.held.value) }
     ensures told { progress.new ≡ progress_told pass.old.held.value progress.old }
@@ -65,8 +66,8 @@ pub fn lpt_ground_progress(alloc: Global, pass: &mut LptGround, progress: &mut L
 
 /// Tells what became of the request of a number, from 0, in the order in which they were made.
 ///
-/// 0; 106 if the handle is empty; 109 if there is no such request: nothing is written then. The
-/// pass stays as it is.
+/// It answers 0; 106 if the handle is empty; 109 if there is no such request: nothing is written
+/// then. The pass stays as it is.
 pub fn lpt_ground_fate(
     alloc: Global,
     pass: &mut LptGround,
@@ -93,8 +94,9 @@ pub fn lpt_ground_fate(
 
 /// Copies the packet that settled the request of a number to the front of a buffer.
 ///
-/// 0; 106 if the handle is empty; 109 if there is no such request, or it is open or failed; 103 if
-/// the buffer is too short. At 0 and at 103 `needed` says how many octets the packet has.
+/// It answers 0; 106 if the handle is empty; 109 if there is no such request, or it is open or
+/// failed; 103 if the buffer is too short. At 0 and at 103 `needed` says how many octets the packet
+/// has.
 pub fn lpt_ground_report(
     alloc: Global,
     pass: &mut LptGround,
@@ -120,9 +122,9 @@ pub fn lpt_ground_report(
 
 /// Copies the octets of memory that the dump of a number got to the front of a buffer.
 ///
-/// 0; 106 if the handle is empty; 109 if there is no such request, or it is open or failed; 103 if
-/// the buffer is too short. At 0 and at 103 `needed` says how many octets there are; of a request
-/// that is no dump none.
+/// It answers 0; 106 if the handle is empty; 109 if there is no such request, or it is open or
+/// failed; 103 if the buffer is too short. At 0 and at 103 `needed` says how many octets there are;
+/// of a request that is no dump none.
 pub fn lpt_ground_dumped(
     alloc: Global,
     pass: &mut LptGround,
@@ -149,9 +151,9 @@ pub fn lpt_ground_dumped(
 }
 
 /// Tells whether the checksums that the reports of checks hold are those of this content, whose
-/// octets the requests check in their order, and of all of it: 1 if they are, else 0.
+/// octets the requests check in their order, and of all of it: 1 if they are, otherwise 0.
 ///
-/// 0; 106 if the handle is empty. The pass stays as it is.
+/// It answers 0; 106 if the handle is empty. The pass stays as it is.
 pub fn lpt_ground_agrees(
     alloc: Global,
     pass: &mut LptGround,

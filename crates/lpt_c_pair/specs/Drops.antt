@@ -48,7 +48,7 @@ DroppedIsPassedOver =
     → IsExecuted e new
     → PassesOver (execution_of e).0.1.applied e new
 
--- the same where the program has the memories, whatever octets it gives
+-- the same if the program has the memories, whatever octets it gives
 abbrev pub GivenIsPassedOver : Type 0
 GivenIsPassedOver =
     (e new : End) (apid : ℕ) (ms : Contents) (octets : List ℕ)

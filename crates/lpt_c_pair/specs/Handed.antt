@@ -76,8 +76,8 @@ MessagesStay =
     → IsHanded side told m s.pair.ends.log (turned_by c s side (Packet b) new).pair.ends.log
 
 -- What a call told of an execution: the log has, as its newest fact, that the oldest request was
--- executed, behind the opening of a report of data, where one was opened; one waited, and the
--- oldest of those that did is what was read at this end; and where what the call told names a
+-- executed, behind the opening of a report of data, if one was opened; one waited, and the
+-- oldest of those that did is what was read at this end; and if what the call told names a
 -- transaction, that report has this name.
 pub record IsExecutedSo (e : End) (told : LptApplied) (before after : Log) : Type 0 where
   pub request : Source

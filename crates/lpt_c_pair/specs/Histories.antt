@@ -32,7 +32,7 @@ pub record History : Type 0 where
   pub but_craft : List CallTurn
   pub but_both : List CallTurn
 
--- A call answered 0, and a reset deletes it where its end wasn't kept since; or no reset does;
+-- A call answered 0, and a reset deletes it if its end wasn't kept since; or no reset does;
 -- the program of a side keeps its end's state, and the spacecraft's with it the memories; or a
 -- machine is reset, and its end is restored from a state and memories.
 pub data CallDeed : Type 0 where
@@ -108,7 +108,7 @@ left_without h Ground = h.but_ground
 left_without h Craft = h.but_craft
 
 -- A call can be made as before, after what is left. An end can be kept at any time. A machine can
--- be reset where what is left can be done without what is deleted, and its end is restored from
+-- be reset if what is left can be done without what is deleted, and its end is restored from
 -- what was kept.
 abbrev pub CanGoOn : Config → (start : Standing) → History → CallDeed → Type 0
 CanGoOn c start h (Makes t) = CanStand c start (t ∷ h.calls)

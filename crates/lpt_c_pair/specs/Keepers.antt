@@ -1,4 +1,4 @@
--- Two ends behind handles, where the spacecraft's program has the memories, and drops requests that
+-- Two ends behind handles, when the spacecraft's program has the memories, and drops requests that
 -- it doesn't execute.
 use Rattle.std.specs.Prelude.{◌≡◌, ℕ, List, [], ◌∷◌, ◌++◌, ⊤}
 use Rattle.lpt_apart.specs.Clocks.{later, Own, own_config}
@@ -51,7 +51,7 @@ program_of k = record {
 abbrev pub giving : (octets : List ℕ) → End → ServiceDeed
 giving octets new = Calls (record { side = Craft; call = ExecuteGiven octets; new = new })
 
--- a request is dropped or refused where nothing was written ahead, or that was put back
+-- a request is dropped or refused if nothing was written ahead, or that was put back
 abbrev pub MayDo : Keeper → ServiceDeed → Type 0
 MayDo k (Calls t) = MayCall (program_of k) t.side t.call
 MayDo k (Drops new) = k.ahead ≡ []
@@ -67,7 +67,7 @@ CanKeep c k (Puts ms) = CanAct c (program_of k) (program.Puts ms)
 CanKeep c k Settles = ⊤
 CanKeep c k TakesBack = ⊤
 
--- what stood there, where this was written ahead over it, or these memories where nothing was
+-- what stood there, if this was written ahead over it, or these memories if nothing was
 abbrev pub stood_by : List ToldWrite → (memories stood : Contents) → Contents
 stood_by [] ms stood = ms
 stood_by (t ∷ ts) ms stood = stood

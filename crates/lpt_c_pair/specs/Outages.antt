@@ -1,4 +1,4 @@
--- Two ends behind handles, where the spacecraft's program has the memories and drops requests that
+-- Two ends behind handles, when the spacecraft's program has the memories and drops requests that
 -- it doesn't execute, and either machine is reset at any time.
 --
 -- A reset deletes what its program did since it last kept its end, but for what was written over
@@ -82,7 +82,7 @@ pub record Lived : Type 0 where
   pub but_craft : List KeeperAct
   pub but_both : List KeeperAct
 
--- A program does something, which a reset deletes where its end wasn't kept since; or what no reset
+-- A program does something, which a reset deletes if its end wasn't kept since; or what no reset
 -- deletes; the program of a side keeps its end's state, the spacecraft's with what it owes; or a
 -- machine is reset, and its end is restored from a state. These are the spacecraft's memories then:
 -- as they were, or with what its program put back or wrote again at its start.
@@ -131,7 +131,7 @@ did_for_good l x = record {
   but_both = x ∷ l.but_both;
 }
 
--- what an event makes of them, where two ends began so; what stood where a write was made ahead is
+-- what an event makes of them, if two ends began so; what stood where a write was made ahead is
 -- as when the end was kept, and nothing stands ahead
 abbrev pub lived_through : Config → (start : Keeper) → Lived → OutageEvent → Lived
 lived_through c start l (Acts x) = did l (actor x) x
@@ -157,7 +157,7 @@ lived_through c start l (ResetsCraft config state sizes ms new) = record l {
 }
 
 -- An act can be done as before, after what is left of all. An end can be kept at any time. A
--- machine can be reset where what is left can be done without what is deleted; its end is made
+-- machine can be reset if what is left can be done without what is deleted; its end is made
 -- again of what was kept of it; and the memories are such that what was owed when it was kept
 -- makes the same of them as of those that were there.
 abbrev pub CanLive : Config → (start : Keeper) → Lived → OutageEvent → Type 0

@@ -176,7 +176,7 @@ end_of Craft g k = k
 
 -- A name's numbers and octets are of their types. Octets that are handed over were put out by the
 -- other end and may come still, or are no part and no request. Octets that a request is given are
--- those that the program's memories have where it reads. A name is freed at its receiver where it
+-- those that the program's memories have where it reads. A name is freed at its receiver if it
 -- is over, and at its sender after that, and none of its parts waits at its sender; or it is free
 -- there as `lpt_end_name` tells it. An end is restored from what was kept of it, in a configuration
 -- that is the same but for the clock and limits. What an end did and wasn't kept is no call:

@@ -1,4 +1,4 @@
--- Two ends behind handles that drop requests, where either machine is reset at any time.
+-- Two ends behind handles that drop requests, when either machine is reset at any time.
 --
 -- A reset deletes what its program did since it last kept its end. So what is left is a run that
 -- drops requests.
@@ -83,7 +83,7 @@ left_without p Ground = p.but_ground
 left_without p Craft = p.but_craft
 
 -- Something can be done as before, after what is left. An end can be kept at any time. A machine
--- can be reset where what is left can be done without what is deleted, and its end is restored from
+-- can be reset if what is left can be done without what is deleted, and its end is restored from
 -- what was kept.
 abbrev pub CanGo : Config → (start : Serving) → Past → PastEvent → Type 0
 CanGo c start p (Does x) = CanServeAll c start (x ∷ p.deeds)

@@ -1,4 +1,4 @@
--- Two ends behind handles, where the spacecraft's program has the memories: what it writes, and
+-- Two ends behind handles, when the spacecraft's program has the memories: what it writes, and
 -- what they are.
 use Rattle.std.specs.Prelude.{◌≡◌, ℕ, ◌+◌, List, [], ◌∷◌, ◌++◌, length, Ok, Err, Some, ⊤}
 use Rattle.lpt_apart.specs.Clocks.{later, Own, own_config}
@@ -82,7 +82,7 @@ program_after c p (Gives octets owed new) = record {
 program_after c p (Puts ms) = record p { memories = ms }
 program_after c p Settles = record p { memories = put_told p.owed p.memories; owed = [] }
 
--- Requests are executed by an act of their own. Where the spacecraft's end is restarted or made
+-- Requests are executed by an act of their own. If the spacecraft's end is restarted or made
 -- again, nothing was written ahead; what is owed is known still.
 abbrev pub MayCall : Program → Side → Call → Type 0
 MayCall p side (ExecuteGiven octets) = ⊥
@@ -100,7 +100,7 @@ pub record IsGiven (p : Program) (octets : List ℕ) (owed : List ToldWrite) : T
   pub held : FrontHolds (head_of p.ends.on_craft.node.at.jobs.jobs) p.memories octets
 
 -- An act can be done: the program keeps what it promises of a call. It writes ahead what it is told
--- next, and nothing while it owes something. While it does, its memories change only where all
+-- next, and nothing while it owes something. While it does, its memories change only if all
 -- that is owed makes the same of them.
 --
 -- Assumed: A C program that has the memories itself keeps each load's writes, or the octets that

@@ -1,4 +1,4 @@
--- Two ends behind handles, where the spacecraft's program has the memories, and either machine is
+-- Two ends behind handles, when the spacecraft's program has the memories, and either machine is
 -- reset at any time.
 --
 -- A reset deletes what its program did since it last kept its end, but for what was written over
@@ -73,7 +73,7 @@ pub record Lived : Type 0 where
   pub but_craft : List Act
   pub but_both : List Act
 
--- A program does something, which a reset deletes where its end wasn't kept since; or what no reset
+-- A program does something, which a reset deletes if its end wasn't kept since; or what no reset
 -- deletes; the program of a side keeps its end's state, the spacecraft's with what it owes; or a
 -- machine is reset, and its end is restored from a state. These are the spacecraft's memories then:
 -- as they were, or with what its program put back or wrote again at its start.
@@ -122,7 +122,7 @@ act_stayed l x = record {
   but_both = x ∷ l.but_both;
 }
 
--- what a deed makes of them, where two ends began so
+-- what a deed makes of them, if two ends began so
 abbrev pub lived_after : Config → (start : Program) → Lived → ActDeed → Lived
 lived_after c start l (Does x) = did l (actor x) x
 lived_after c start l (Stays x) = act_stayed l x
@@ -146,7 +146,7 @@ lived_after c start l (ResetsCraft config state sizes ms new) = record l {
 }
 
 -- An act can be done as before, after what is left of all. An end can be kept at any time. A
--- machine can be reset where what is left can be done without what is deleted; its end is made
+-- machine can be reset if what is left can be done without what is deleted; its end is made
 -- again of what was kept of it; and the memories are such that what was owed when it was kept
 -- makes the same of them as of those that were there.
 abbrev pub CanLive : Config → (start : Program) → Lived → ActDeed → Type 0

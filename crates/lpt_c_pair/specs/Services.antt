@@ -139,7 +139,7 @@ DroppedStaysDropped =
     → IsDone Execute s.on_craft new
     → PassesOver (execution_of s.on_craft).0.1.applied s.on_craft new
 
--- the same where the program has the memories
+-- the same if the program has the memories
 abbrev pub GivenStaysDropped : Type 0
 GivenStaysDropped =
     (c : Config) (first : Contents) (s : Serving) (octets : List ℕ) (new : End)

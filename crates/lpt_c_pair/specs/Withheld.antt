@@ -38,7 +38,7 @@ turns_of (Settles ∷ xs) = turns_of xs
 
 -- Whatever calls were made of two ends that were new: what was last opened under a name, and each
 -- part of which `lpt_end_packet` took since then, and since its receiver was last restarted or made
--- again, was released since; but where there was no room, or its reception expired or was broken
+-- again, was released since, unless there was no room, or its reception expired or was broken
 -- off.
 abbrev pub EndsOfCWithholdNothing : Type 0
 EndsOfCWithholdNothing =
@@ -54,7 +54,7 @@ EndsOfCWithholdNothing =
     (stood c (standing_begun c (memories_told content ms) a b g k) ts).pair.ends.log
     (came_since c (no_pair_later c (memories_told content ms) a b) (moves_of ts))
 
--- the same where the spacecraft's program has the memories
+-- the same if the spacecraft's program has the memories
 abbrev pub ProgramsWithholdNothing : Type 0
 ProgramsWithholdNothing =
     (c : Config) (a : ℕ) (b : Own)
@@ -69,11 +69,11 @@ ProgramsWithholdNothing =
     → WithholdsNothing c (came_by c (program_started c first a b g k) xs).ends.pair.ends.log
     (came_since c (no_pair_later c first a b) (moves_of (turns_of xs)))
 
--- ---- where requests are dropped
+-- ---- if requests are dropped
 
 -- Whatever calls were made of two ends that were new, drops among them: what was last opened
 -- upwards under a name, and each part of which `lpt_end_packet` took since then, and since the
--- spacecraft was last restarted or made again, was released since; but where there was no room, or
+-- spacecraft was last restarted or made again, was released since, unless there was no room, or
 -- its reception expired or was broken off.
 abbrev pub EndsOfCThatDropWithholdNoRequest : Type 0
 EndsOfCThatDropWithholdNoRequest =
@@ -89,7 +89,7 @@ EndsOfCThatDropWithholdNoRequest =
     (served_all c (no_serving c (memories_told content ms) a b g k) xs).service.pair.ends.log
     (came_with c (no_service c (memories_told content ms) a b) (turns_by_deeds xs))
 
--- the same where the spacecraft's program has the memories
+-- the same if the spacecraft's program has the memories
 abbrev pub ProgramsThatDropWithholdNoRequest : Type 0
 ProgramsThatDropWithholdNoRequest =
     (c : Config) (a : ℕ) (b : Own)

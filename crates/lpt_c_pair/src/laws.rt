@@ -18,22 +18,22 @@ ghost use Rattle.lpt_c_pair.specs.Ticks.{ManyTicksAreTicks};
 ghost use Rattle.lpt_c_pair.specs.Withheld.{EndsOfCThatDropWithholdNoRequest, EndsOfCWithholdNothing, ProgramsThatDropWithholdNoRequest, ProgramsWithholdNothing};
 
 /// If two ends behind handles are those of two ends apart, and one of them is called, answers 0,
-/// and the program keeps what it promises of that call, its moves can happen, and the ends are
+/// and the program keeps what it promises of that call, then its moves can happen, and the ends are
 /// those of two ends apart after them.
 pub fn calls_are_moves()
     ensures { CallsAreMoves }
 {}
 
 /// Take two new ends, one of each side, of one configuration but for the clocks that they begin
-/// with, and any list of calls of them that answered 0, also such as make an end again of what was
-/// kept of it, the programs keeping what they promise. Then the ends are two ends apart. Each large
+/// with, and any list of calls of them that answered 0, also such as restore an end from its saved
+/// state, if the programs keep what they promise. Then the ends are two ends apart. Each large
 /// message that was released is the one last opened under its name at the other end, and once; each
 /// plain request is one that ground asked; and the spacecraft's memories are their first content,
 /// changed by the executed requests in order of release.
 ///
-/// So it is too if its program has the memories: those are its own, and what it writes over them
-/// is what `lpt_end_access` and `lpt_end_access_octets` told it. If it wrote something ahead of
-/// an execution, that stands over them besides; if it owes something, it is missing.
+/// It is the same if its program has the memories: those are its own, and what it writes over them
+/// is what `lpt_end_access` and `lpt_end_access_octets` told it. If it wrote something ahead of an
+/// execution, that stands over them besides; if it owes something, it is missing.
 pub fn ends_of_c_keep_the_promise()
     ensures in_end { EndsOfCKeepThePromise }
     ensures with_program { ProgramsKeepTheirMemories }
@@ -50,10 +50,10 @@ pub fn ends_of_c_withhold_nothing()
     ensures own_dropping { ProgramsThatDropWithholdNoRequest }
 {}
 
-/// So it is whenever a machine is reset, once or again and again, also if its program had made
-/// calls that it hadn't kept: what is left of all calls comes to the ends that the programs have,
-/// and what came whole with it was released. Nothing of what is deleted was handed to the other
-/// end.
+/// Ends withhold nothing and keep the promise whenever a machine is reset, once or again and again,
+/// also if its program had made calls that it hadn't kept: what is left of all calls comes to the
+/// ends that the programs have, and what came whole with it was released. Nothing of what is
+/// deleted was handed to the other end.
 ///
 /// If the spacecraft's program has the memories, what is left comes to these and to what it owes
 /// too; since it last kept its end, they were changed only by what it owed then, or put back.
@@ -81,8 +81,8 @@ pub fn writes_can_be_made_again()
 /// If `lpt_end_packet` answers 0, and `lpt_end_released` copies a message then, the newest fact of
 /// the log is that this message was released, of the transaction that the first call told, or of
 /// none; and that was due. So what a caller is handed is the message last opened under that name at
-/// the other end, or a request that ground asked. So it is too if other calls come in between, but
-/// for `lpt_end_packet` and such as make the end again.
+/// the other end, or a request that ground asked. It is the same if other calls come in between,
+/// but for `lpt_end_packet` and such as restore the end.
 pub fn messages_are_handed()
     ensures at_once { MessagesAreHanded }
     ensures later { MessagesStay }

@@ -50,7 +50,7 @@ abbrev pub called_log : Log
 called_log =
     Restarted Craft ∷ Executed ∷ Released None load_packet ∷ Asked load_packet ∷ []
 
--- The same, where both ends are kept before anything that depends on it is handed over, and the
+-- The same, if both ends are kept before anything that depends on it is handed over, and the
 -- spacecraft's machine is reset when the packet has come once more: that is deleted.
 abbrev pub called_and_reset : (asked taken read done more again : End) → List CallDeed
 called_and_reset asked taken read done more again =

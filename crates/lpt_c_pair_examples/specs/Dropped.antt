@@ -46,7 +46,7 @@ abbrev pub left_of : (start : Serving) → List PastEvent → Serving
 left_of start xs = served_all usual start (went_all (just_begun start) xs).deeds
 
 -- ends that come of it; what was executed, and the memories that the spacecraft's end has: behind
--- the first execution as they were, and behind the second with the load; and that this is so where
+-- the first execution as they were, and behind the second with the load; and that this is so if
 -- its machine was reset
 pub record CanBeDropped (start : Serving) : Type 0 where
   pub asked : End

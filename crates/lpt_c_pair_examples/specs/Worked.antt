@@ -1,4 +1,4 @@
--- A worked run of two ends behind handles, where the spacecraft's program has the memories.
+-- A worked run of two ends behind handles, when the spacecraft's program has the memories.
 use Rattle.std.specs.Prelude.{◌≡◌, List, [], ◌∷◌, ◌++◌, replicate}
 use Rattle.lpt_c_end.specs.Changes.{IsNew}
 use Rattle.lpt_c_end.specs.Sizes.{IsNewSized}

@@ -6,25 +6,25 @@ ghost use Rattle.lpt_c_pair_examples.specs.Nodes.{NodesCanBe};
 ghost use Rattle.lpt_c_pair_examples.specs.TakenBack.{WrittenCanBeTakenBack};
 ghost use Rattle.lpt_c_pair_examples.specs.Worked.{TornCanBeRedone, WorkedCanBe, WrittenCanBePutBack};
 
-/// Of whatever two new ends, of which the spacecraft's has its memory: ground asks for a load; the
+/// With any two new ends, of which the spacecraft's has its memory: ground asks for a load; the
 /// spacecraft takes its packet, reads and executes it, and is restored from its state. All of it
-/// can be done; the load was released and executed, and stands in the memory. So it is if the
+/// can be done; the load was released and executed, and stands in the memory. It is the same if the
 /// machine is reset after that, when the packet has come once more.
 pub fn calls_can_be()
     ensures { CallsCanBe }
 {}
 
-/// Of whatever two new ends, of which the spacecraft's program has the memories: ground asks for a
-/// load; the spacecraft takes its packet, reads and executes it, writes what it owes, and is made
-/// again of its state. All of it can be done; the load was released and executed, and stands in the
-/// memory.
+/// With any two new ends, of which the spacecraft's program has the memories: ground asks for a
+/// load; the spacecraft takes its packet, reads and executes it, writes what it owes, and is
+/// restored from its state. All of it can be done; the load was released and executed, and stands
+/// in the memory.
 pub fn worked_can_be()
     ensures { WorkedCanBe }
 {}
 
-/// The same, if both ends are kept before anything that depends on it is handed over, and the
-/// spacecraft's machine is reset while half of the load is written: its end is restored from what
-/// was kept behind the execution, and the write that is owed is made again.
+/// The same can be done if both ends are kept before anything that depends on it is handed over,
+/// and the spacecraft's machine is reset while half of the load is written: its end is restored
+/// from what was kept behind the execution, and the write that is owed is made again.
 pub fn torn_can_be_redone()
     ensures { TornCanBeRedone }
 {}
@@ -35,18 +35,18 @@ pub fn written_can_be_put_back()
     ensures { WrittenCanBePutBack }
 {}
 
-/// Of whatever two new ends, of which the spacecraft's has its memory: a load comes twice. The
-/// program drops it when it comes first, and reads it when it comes again. The execution of the
-/// first leaves the memory as it was; that of the second is the only one in the list, and writes
-/// it. So it is if the machine is reset after that.
+/// With any two new ends, of which the spacecraft's has its memory: a load comes twice. The program
+/// drops it when it comes first, and reads it when it comes again. The execution of the first
+/// leaves the memory as it was; that of the second is the only one in the list, and writes it. It
+/// is the same if the machine is reset after that.
 pub fn dropped_can_be()
     ensures { DroppedCanBe }
 {}
 
-/// The same of a program that has the memory: it reads the first and writes the load, puts back
-/// what stood there and lets the request go. It executes the second, with its write owed, and its
-/// machine is reset while half of that is written. The second is the only one in the list, and the
-/// load stands in the memory.
+/// The same can be done if the program has the memory: it reads the first and writes the load, puts
+/// back what stood there and lets the request go. It executes the second, with its write owed, and
+/// its machine is reset while half of that is written. The second is the only one in the list, and
+/// the load stands in the memory.
 pub fn written_can_be_taken_back()
     ensures { WrittenCanBeTakenBack }
 {}

@@ -14,7 +14,7 @@ abbrev pub address_owns : Global → Ptr → Option the_row.Denot → Fml
 address_owns alloc at None = ftrue
 address_owns alloc at (Some value) = box_owns (ghosts.dealloc_token alloc) the_row at value
 
--- the archive in the handle at an address, where there is one
+-- the archive in the handle at an address, if there is one
 abbrev pub archive_at : Option LptReader → Option Archive
 archive_at handle = option_and_then (λ h. h.held.value) handle
 

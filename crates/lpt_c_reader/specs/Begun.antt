@@ -18,6 +18,6 @@ abbrev pub IsBegun : Reading → (any : Bool) → Option Joins → Type 0
 IsBegun r any None = ⊥
 IsBegun r any (Some j) = (j.reading ≡ r) × (j.any ≡ any) × HasJoined [] [] j
 
--- what is joined has checksums where its packets are read so
+-- what is joined has checksums if its packets are read so
 abbrev pub IsSealedAs : Reading → Joins → Type 0
 IsSealedAs r j = j.reading.layout.has_checksum ≡ r.layout.has_checksum

@@ -89,7 +89,7 @@ ShowsBy code before after (Some a) (Some new) = Shows code before after a new
 
 -- ---- the packet that was told last
 
--- its octets, where one was
+-- its octets, if one was
 abbrev pub some_text : List ℕ → Text
 some_text [] = Err nothing
 some_text (x ∷ b) = Ok (x ∷ b)

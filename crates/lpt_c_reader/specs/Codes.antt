@@ -61,12 +61,12 @@ abbrev pub refusal_by : (Archive → Option ℕ) → Option Archive → Option �
 refusal_by of None = Some empty
 refusal_by of (Some a) = of a
 
--- the answer of a call that takes no memory, where this refuses it
+-- the answer of a call that takes no memory, if this refuses it
 abbrev pub answer : Option ℕ → ℕ
 answer None = all_done
 answer (Some fault) = fault
 
--- the answer of a call that takes memory, where this refuses it; where nothing does, out of memory
+-- the answer of a call that takes memory, if this refuses it; if nothing does, out of memory
 -- alone can
 abbrev pub IsAnswer : Option ℕ → ℕ → Type 0
 IsAnswer None code = (code ≡ all_done) ⊎ (code ≡ memory)

@@ -12,13 +12,13 @@ code_for (Ok text) old = if nat_le (length text) (length old) then all_done else
 code_for (Err fault) old = fault
 
 -- what the buffer holds afterwards: the text, and behind it what was there; all that was there,
--- where there is no text or no room
+-- if there is no text or no room
 abbrev pub left_by : Text → List ℕ → List ℕ
 left_by (Ok text) old =
     if nat_le (length text) (length old) then text ++ drop (length text) old else old
 left_by (Err fault) old = old
 
--- how many octets are needed, where there is a text
+-- how many octets are needed, if there is a text
 abbrev pub needed_by : Text → ℕ → ℕ
 needed_by (Ok text) old = length text
 needed_by (Err fault) old = old

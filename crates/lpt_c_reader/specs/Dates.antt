@@ -11,12 +11,12 @@ use Rattle.lpt_c_reader.specs.Copies.{Text, code_for}
 use Rattle.lpt_c_reader.specs.Seen.{Typed, typed_in}
 use Rattle.lpt_c_reader.specs.declared.archives.Archive.{Archive}
 
--- the text of a date, where there is one
+-- the text of a date, if there is one
 abbrev pub if_text : Option (List ℕ) → Text
 if_text None = Err nothing
 if_text (Some text) = Ok text
 
--- the date of a time by a code, where the layout has one
+-- the date of a time by a code, if the layout has one
 abbrev pub date_by : Option TimeCode → List ℕ → Text
 date_by None time = Err nothing
 date_by (Some c) time = if_text (time_text c time)

@@ -72,7 +72,7 @@ with_part (Some q) i = record i {
   number = q.number;
 }
 
--- with what a message carries, where that is a part of this kind
+-- with what a message carries, if that is a part of this kind
 abbrev pub with_carried : Tailored → List ℕ → Option Kind → LptItem → LptItem
 with_carried t body None i = i
 with_carried t body (Some kind) i = with_part (part_at t kind body) i
@@ -92,7 +92,7 @@ with_header l s i = record i {
   time_len = l.time;
 }
 
--- with what is behind the primary header, where that is read
+-- with what is behind the primary header, if that is read
 abbrev pub with_field : Tailored → PacketKind → Result Said PusFault → LptItem → LptItem
 with_field t kind (Ok s) i =
     with_carried t s.body (carried_kind (direction_of kind) s.service s.subtype)
@@ -116,7 +116,7 @@ packet_item l place stray b =
     sight_item (layout_in l b) (verdict_as (layout_in l b).packets.has_checksum b)
     (record (end_item place stray) { length = length b })
 
--- what is written of what stands next; what was there before, where that isn't known yet
+-- what is written of what stands next; what was there before, if that isn't known yet
 abbrev pub item_by : Layouts → Shown → (octets : List ℕ) → (before : LptItem) → LptItem
 item_by l (shown.Piece i) b before = packet_item l i.place i.stray b
 item_by l shown.Open b before = before

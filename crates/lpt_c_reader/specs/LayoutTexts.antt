@@ -9,7 +9,7 @@ use Rattle.lpt_reader.specs.Readers.{HasTold, state_of}
 use Rattle.lpt_c_reader.specs.Codes.{bad_layout, memory, range, IsAnswer}
 use Rattle.lpt_c_reader.specs.declared.archives.Archive.{Archive}
 
--- what a text means as a layout file, where it does
+-- what a text means as a layout file, if it does
 abbrev pub layouts_in : (text : List ℕ) → Option Layouts
 layouts_in text = option_and_then layouts_of (parse_document text)
 
@@ -25,7 +25,7 @@ MeansNone text = (¬ (IsUtf8 text)) ⊎ (layouts_in text ≡ None)
 abbrev pub own_refusal : (part_size : ℕ) → Option ℕ
 own_refusal p = if nat_lt p 4 || nat_lt 1024 p then Some range else None
 
--- the layouts of a reader: those of a text, or where there is none the profile's
+-- the layouts of a reader: those of a text, or if there is none the profile's
 abbrev pub Means : (part_size : ℕ) → (text : List ℕ) → Layouts → Type 0
 Means p [] l = (own_refusal p ≡ None) × (l ≡ own_layouts_of p)
 Means p (x ∷ text) l = IsMeaning (x ∷ text) l

@@ -17,7 +17,7 @@ abbrev pub octets_or : Text → List ℕ
 octets_or (Ok b) = b
 octets_or (Err fault) = []
 
--- the line that no packet is in front of a place, where so many octets there are none
+-- the line that no packet is in front of a place, if so many octets there are none
 abbrev pub stray_line : Form → (place stray : ℕ) → List ℕ
 stray_line form place stray = if stray == 0 then [] else none_line form (place - stray)
 

@@ -41,7 +41,7 @@ told_there d kind place = record {
 abbrev pub with_name : Name → LptMessage → LptMessage
 with_name n i = record i { user = n.user; id = n.id }
 
--- a place, or 2^64 - 1 where it isn't known
+-- a place, or 2^64 - 1 if it isn't known
 abbrev pub place_or : Option ℕ → ℕ
 place_or None = 2 ^ 64 - 1
 place_or (Some place) = place
@@ -78,7 +78,7 @@ abbrev pub with_event : Option (Name × NewsAs) → LptMessage → LptMessage
 with_event None i = i
 with_event (Some e) i = with_news e.1 (with_name e.0 i)
 
--- what is written of what stands next, with which this becomes; what was there before, where it
+-- what is written of what stands next, with which this becomes; what was there before, if it
 -- isn't known yet
 abbrev pub message_by : Direction → Shown → Option (Name × NewsAs) → (before : LptMessage)
     → LptMessage

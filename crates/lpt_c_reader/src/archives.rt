@@ -55,7 +55,7 @@ impl Archive {
         }
     }
 
-    // The same of one that joins messages whose parts are read so.
+    // The archive of such a stream, whose messages are joined of parts that are read so.
     pub(crate) fn joining(alloc: Global, layouts: Layouts, reading: &Reading, any: bool) -> Archive
         requires { SizesFit layouts }
         ensures layouts { result.layouts ≡ layouts }

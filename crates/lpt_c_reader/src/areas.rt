@@ -37,8 +37,8 @@ pub struct LptNamed {
 /// Tells what `lpt list` says of the areas that a message names: the memory, how many they are, and
 /// address and length of the first. What stands behind that isn't looked at.
 ///
-/// 0, and `first` is written; 106 if the handle is empty; the number of the first test that octets
-/// fail; 109 if they name no area.
+/// It answers 0, and `first` is written; 106 if the handle is empty; the number of the first test
+/// that octets fail; 109 if they name no area.
 pub fn lpt_reader_areas(
     alloc: Global,
     reader: &mut LptReader,
@@ -61,9 +61,9 @@ pub fn lpt_reader_areas(
 
 /// Tells one of the areas that a message names, by its number from 0.
 ///
-/// 0, and `area` is written; 106 if the handle is empty; the number of the first test that octets
-/// fail; 109 if they are no message that names areas; 105 if its body isn't read as areas with
-/// nothing behind them; 102 if it has none of this number.
+/// It answers 0, and `area` is written; 106 if the handle is empty; the number of the first test
+/// that octets fail; 109 if they are no message that names areas; 105 if its body isn't read as
+/// areas with nothing behind them; 102 if it has none of this number.
 pub fn lpt_reader_area(
     alloc: Global,
     reader: &mut LptReader,

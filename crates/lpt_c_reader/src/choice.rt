@@ -65,7 +65,7 @@ fn size_for(tailored: &Tailored, body: &[u8]) -> Option<u32>
     }
 }
 
-// So many octets, where they are a part size.
+// So many octets, if they are a part size.
 fn own_size(len: usize) -> Option<u32>
     ensures value { result ≡ a_size len }
     ensures size { IfSome result IsPartSizeAs }

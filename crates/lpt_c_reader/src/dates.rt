@@ -17,9 +17,9 @@ use std::alloc::Global;
 /// Copies the date of the packet that `lpt_reader_next` told last to the front of a buffer: that of
 /// its time by the layout's time code, as `lpt list` prints it.
 ///
-/// 0; 106 if the handle is empty; 109 if it told no packet whose time has a code, or octets were
-/// taken since; 58 when out of memory; 109 if the time says no date; 103 if the buffer is too
-/// short. At 0 and 103 `needed` is the date's length.
+/// It answers 0; 106 if the handle is empty; 109 if it told no packet whose time has a code, or
+/// octets were taken since; 58 when out of memory; 109 if the time says no date; 103 if the buffer
+/// is too short. At 0 and 103 `needed` is the date's length.
 pub fn lpt_reader_date(
     alloc: Global,
     reader: &mut LptReader,

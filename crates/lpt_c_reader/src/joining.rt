@@ -19,8 +19,9 @@ use std::alloc::Global;
 /// Goes on behind what stands next in the archive, and tells what becomes of messages with it. At
 /// the end it tells what is left of each name, one after the other, and then that nothing is.
 ///
-/// 0, and the message is written; 106 if the handle is empty; 109 if it joins no messages; 104 if
-/// it depends on octets that may still come; 58 when out of memory, and again from then on.
+/// It answers 0, and the message is written; 106 if the handle is empty; 109 if it joins no
+/// messages; 104 if it depends on octets that may still come; 58 when out of memory, and again from
+/// then on.
 pub fn lpt_reader_message(alloc: Global, reader: &mut LptReader, message: &mut LptMessage) -> u32
     ensures { MessageBy result message.old message.new reader.old.held.value
         reader.new.held.value }
@@ -35,8 +36,8 @@ pub fn lpt_reader_message(alloc: Global, reader: &mut LptReader, message: &mut L
 
 /// Copies the message that `lpt_reader_message` told last to the front of a buffer.
 ///
-/// 0; 106 if the handle is empty; 109 if it told none; 103 if the buffer is too short. At 0 and 103
-/// `needed` is the message's length.
+/// It answers 0; 106 if the handle is empty; 109 if it told none; 103 if the buffer is too short.
+/// At 0 and 103 `needed` is the message's length.
 pub fn lpt_reader_message_octets(
     alloc: Global,
     reader: &mut LptReader,
@@ -59,7 +60,7 @@ pub fn lpt_reader_message_octets(
 /// Says whether the part of a number is missing among those that `lpt_reader_message` told last to
 /// be given up: 1 or 0.
 ///
-/// 0; 106 if the handle is empty; 109 if it told of none; 102 if the number is 0.
+/// It answers 0; 106 if the handle is empty; 109 if it told of none; 102 if the number is 0.
 pub fn lpt_reader_missing(
     alloc: Global,
     reader: &mut LptReader,
@@ -94,7 +95,7 @@ impl Archive {
         }
     }
 
-    // The same, where this was joined so far.
+    // Does that if this was joined so far.
     fn join(
         &mut self,
         alloc: Global,

@@ -10,7 +10,7 @@ use lpt_reader::laws::told_one_way;
 use lpt_reader_each::laws::{each_is_told, leaving_begins};
 use lpt_stream::laws::streams_are_cut_one_way;
 
-/// Of an archive that was fed to its end the same packets are told, at the same places, however it
+/// The same packets are told of an archive that was fed to its end, at the same places, however it
 /// was cut when it was fed.
 pub fn archives_are_told_one_way()
     ensures { ToldOneWay }
@@ -50,21 +50,21 @@ pub fn images_are_extracted()
     streams_are_cut_one_way();
 }
 
-/// Of whatever new reader of the profile: an archive of one packet is fed and ended, the packet is
+/// With any new reader of the profile, an archive of one packet can be fed and ended; the packet is
 /// told, with its octets, and then the end.
 pub fn items_can_be()
     ensures { ItemsCanBe }
 {}
 
-/// Of whatever new reader of the profile: an archive of one dump report is fed and ended, and its
+/// With any new reader of the profile, an archive of one dump report can be fed and ended, and its
 /// area laid over four octets.
 pub fn images_can_be()
     ensures { ImagesCanBe }
 {}
 
-/// Of whatever new reader that joins telemetry of the profile: an archive of one packet, which
-/// carries no part, is fed and ended; it is told that nothing becomes of messages with it, and then
-/// the end.
+/// With any new reader that joins telemetry of the profile, an archive of one packet, which carries
+/// no part, can be fed and ended; it is told that nothing becomes of messages with it, and then the
+/// end.
 pub fn messages_can_be()
     ensures { MessagesCanBe }
 {}

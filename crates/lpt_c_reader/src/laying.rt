@@ -21,7 +21,7 @@ pub struct LptImage {
     pub apid: u16,
     /// The identifier of the memory.
     pub memory: u8,
-    /// 0; or any other number if a 1 is laid in place of each octet.
+    /// 0 if the octets themselves are laid; any other number if a 1 is laid in place of each.
     pub marks: u8,
 }
 
@@ -58,8 +58,8 @@ const AREAS: u32 = 5;
 /// takes, if it is a dump report of the memory and of the APID. Of two that overlap the later one
 /// wins; what stands in front of the address isn't laid.
 ///
-/// 0, and the areas are laid; 106 if the handle is empty; 103 if the image is too short: then it is
-/// as it was. At 0 and 103 `laid` is written.
+/// It answers 0, and the areas are laid; 106 if the handle is empty; 103 if the image is too short:
+/// then it is as it was. At 0 and 103 `laid` is written.
 pub fn lpt_reader_lay(
     alloc: Global,
     reader: &mut LptReader,

@@ -5,8 +5,9 @@
 //! these calls.
 //!
 //! Each call is total. It answers 0, or the number of the first fault that applies, and then the
-//! reader is as it was. Memory comes from the three allocator functions of the kit, which the
-//! caller's program has.
+//! reader is as it was. The one exception is `lpt_reader_message`: once memory has run out for it,
+//! it joins nothing any more, and answers that again. Memory comes from the three allocator
+//! functions of the kit, which the caller's program has.
 //!
 //! What is told of a packet is what `lpt list` says of it: the contracts cite its definitions.
 //!

@@ -99,7 +99,7 @@ pub(crate) fn sum_areas(count: u8, octets: &[u8]) -> Option<Sum>
     Some(sum)
 }
 
-// With an area more.
+// The sum with an area more.
 fn with_area(sum: Sum, area: &SeenArea<'_>) -> Sum
     requires { sum.passed < 4294967295 }
     ensures { result ≡ with_areas sum (load_area area.now ∷ []) }

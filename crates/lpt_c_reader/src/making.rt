@@ -1,4 +1,4 @@
-//! A new archive, and its end.
+//! Making the reader of an archive, and letting it go.
 
 ghost use Rattle.std.specs.Prelude.{◌≡◌, ◌≤◌, length, IfErr, IfOk};
 ghost use Rattle.lpt_carried.specs.Layouts.{SizesFit};
@@ -24,8 +24,8 @@ const GREATEST_PART: u32 = 1_024;
 /// a layout file says; without octets, by the profile, with parts of `part_size` octets, which
 /// isn't looked at otherwise.
 ///
-/// Without a text, 102 if the part size isn't 4 to 1024; with one, 122 if it isn't UTF-8 or means
-/// no layout. 58 when out of memory. The address is written only at 0.
+/// It answers 0; without a text, 102 if the part size isn't 4 to 1024; with one, 122 if it isn't
+/// UTF-8 or means no layout; 58 when out of memory. The address is written only at 0.
 pub fn lpt_reader_new(
     alloc: Global,
     reader: &mut LptReaderAddress,

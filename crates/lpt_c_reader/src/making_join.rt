@@ -15,10 +15,10 @@ use lpt_packet::Direction;
 use std::alloc::Global;
 
 /// Makes the reader of an archive whose messages are joined, of packets of this APID that go in a
-/// direction, 0 up or 1 down, and writes its address; the rest is as for `lpt_reader_new`. With
-/// `any` 1 messages are told that are no packets of the direction, too; `any` is 0 or 1.
+/// direction, 0 up or 1 down, and writes its address; the rest is as for `lpt_reader_new`. If `any`
+/// is 1, messages are told too that are no packets of the direction; `any` is 0 or 1.
 ///
-/// 102 for another direction or `any`; then the answers of `lpt_reader_new`.
+/// It answers 102 for another direction or `any`, and otherwise what `lpt_reader_new` answers.
 pub fn lpt_reader_new_join(
     alloc: Global,
     reader: &mut LptReaderAddress,

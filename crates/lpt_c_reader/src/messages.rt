@@ -15,7 +15,8 @@ use lpt_reader::Shown;
 pub struct LptMessage {
     /// How many octets of the archive stand in front of what stands next.
     pub place: u64,
-    /// The same of the first of the parts that are given up; 2^64 - 1 if there are none.
+    /// How many octets of the archive stand in front of the first of the parts that are given up;
+    /// 2^64 - 1 if there are none.
     pub first: u64,
     /// How many octets the message has.
     pub length: usize,
@@ -36,7 +37,7 @@ pub struct LptMessage {
     pub fault: u32,
 }
 
-// What is told of what stands next, with which this becomes; none where it isn't known yet.
+// What is told of what stands next, with which this becomes; none if it isn't known yet.
 pub(crate) fn message_by(
     direction: Direction,
     shown: Shown,
@@ -80,7 +81,7 @@ fn direction_number(direction: Direction) -> u32
     }
 }
 
-// With what became of the parts of a name, if something did.
+// The message with what became of the parts of a name, if something did.
 fn with_event(event: &Option<(Name, NewsAs)>, message: LptMessage) -> LptMessage
     ensures { result ≡ with_event event.now message }
 {
@@ -97,7 +98,7 @@ fn with_event(event: &Option<(Name, NewsAs)>, message: LptMessage) -> LptMessage
     }
 }
 
-// With what became of parts.
+// The message with what became of parts.
 fn with_news(news: &NewsAs, message: LptMessage) -> LptMessage
     ensures { result ≡ with_news news.now message }
 {
@@ -124,7 +125,7 @@ fn with_news(news: &NewsAs, message: LptMessage) -> LptMessage
     }
 }
 
-// With parts that came.
+// The message with parts that came.
 fn with_came(came: &CameAs, message: LptMessage) -> LptMessage
     ensures { result ≡ with_came came.now message }
 {
@@ -136,7 +137,7 @@ fn with_came(came: &CameAs, message: LptMessage) -> LptMessage
     }
 }
 
-// A place, or 2^64 - 1 where it isn't known.
+// A place, or 2^64 - 1 if it isn't known.
 fn place_or(place: Option<u64>) -> u64
     ensures { result ≡ place_or place }
 {

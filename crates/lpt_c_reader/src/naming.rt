@@ -74,7 +74,7 @@ fn coding_by(kind: PacketKind, subtype: u8) -> Option<Coding>
     }
 }
 
-// The area of a number, if there is one, of so many; none where the octets aren't just these.
+// The area of a number, if there is one, of so many; none if the octets aren't just these.
 pub(crate) fn find_area(
     coding: Coding,
     octets: &[u8],

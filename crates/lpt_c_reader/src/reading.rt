@@ -16,8 +16,8 @@ use std::alloc::Global;
 
 /// Takes octets of the archive, which come behind those that were taken before.
 ///
-/// 0; 106 if the handle is empty; 123 if `lpt_reader_end` was called; 58 when out of memory. Then
-/// nothing has changed.
+/// It answers 0; 106 if the handle is empty; 123 if `lpt_reader_end` was called; 58 when out of
+/// memory. Unless it answers 0, nothing has changed.
 pub fn lpt_reader_feed(alloc: Global, reader: &mut LptReader, octets: &[u8]) -> u32
     ensures code { IsAnswer (refusal_by feed_refusal reader.old.held.value) result }
     ensures done { result ≡ 0
@@ -35,7 +35,7 @@ pub fn lpt_reader_feed(alloc: Global, reader: &mut LptReader, octets: &[u8]) -> 
 
 /// Takes it that the archive ends behind what was taken.
 ///
-/// 0; 106 if the handle is empty.
+/// It answers 0; 106 if the handle is empty.
 pub fn lpt_reader_end(alloc: Global, reader: &mut LptReader) -> u32
     ensures code { result ≡ answer (refusal_by (λ a. None) reader.old.held.value) }
     ensures done { IfBoth Ends reader.old.held.value reader.new.held.value }
@@ -50,8 +50,8 @@ pub fn lpt_reader_end(alloc: Global, reader: &mut LptReader) -> u32
 
 /// Tells what stands next in the archive, and goes on behind it: a packet, or the end.
 ///
-/// 0, and the item is written; 106 if the handle is empty; 104 if it depends on octets that may
-/// still come.
+/// It answers 0, and the item is written; 106 if the handle is empty; 104 if it depends on octets
+/// that may still come.
 pub fn lpt_reader_next(alloc: Global, reader: &mut LptReader, item: &mut LptItem) -> u32
     ensures { ShowsBy result item.old item.new reader.old.held.value reader.new.held.value }
 {
@@ -65,8 +65,8 @@ pub fn lpt_reader_next(alloc: Global, reader: &mut LptReader, item: &mut LptItem
 
 /// Copies the packet that `lpt_reader_next` told last to the front of a buffer.
 ///
-/// 0; 106 if the handle is empty; 109 if it told none, or octets were taken since; 103 if the
-/// buffer is too short. At 0 and 103 `needed` is the packet's length.
+/// It answers 0; 106 if the handle is empty; 109 if it told none, or octets were taken since; 103
+/// if the buffer is too short. At 0 and 103 `needed` is the packet's length.
 pub fn lpt_reader_octets(
     alloc: Global,
     reader: &mut LptReader,

@@ -62,7 +62,7 @@ pub(crate) fn end_item(place: u64, stray: u64) -> LptItem
     }
 }
 
-// With the test that octets fail first.
+// The item with the test that octets fail first.
 fn faulty(code: u16, item: LptItem) -> LptItem
     ensures { result ≡ faulty code item }
 {
@@ -73,7 +73,7 @@ fn faulty(code: u16, item: LptItem) -> LptItem
     }
 }
 
-// With a primary header.
+// The item with a primary header.
 fn with_packet(packet: &PacketAs<'_>, item: LptItem) -> LptItem
     ensures { result ≡ with_packet (fields packet.now) item }
 {
@@ -85,7 +85,7 @@ fn with_packet(packet: &PacketAs<'_>, item: LptItem) -> LptItem
     }
 }
 
-// With what is behind it, where that is read.
+// The item with what is behind it, if that is read.
 fn with_field(tailored: &Tailored, packet: &PacketAs<'_>, item: LptItem) -> LptItem
     requires { SizeFits tailored.now }
     ensures { result ≡ with_field tailored.now packet.now.kind
@@ -105,7 +105,7 @@ fn with_field(tailored: &Tailored, packet: &PacketAs<'_>, item: LptItem) -> LptI
     }
 }
 
-// With a secondary header.
+// The item with a secondary header.
 fn with_header(layout: &Layout, message: &Message<'_>, item: LptItem) -> LptItem
     ensures { result ≡ with_header layout.now (message_said message.now) item }
 {
@@ -125,7 +125,7 @@ fn with_header(layout: &Layout, message: &Message<'_>, item: LptItem) -> LptItem
     }
 }
 
-// With the part that it carries, where it carries one.
+// The item with the part that it carries, if it carries one.
 fn with_carried(
     tailored: &Tailored,
     kind: PacketKind,
@@ -142,7 +142,7 @@ fn with_carried(
     }
 }
 
-// With a part of this kind, or one that isn't read.
+// The item with a part of this kind, or one that isn't read.
 fn with_part(tailored: &Tailored, kind: Kind, body: &[u8], item: LptItem) -> LptItem
     requires { SizeFits tailored.now }
     ensures { result ≡ with_part (part_at tailored.now kind body.now) item }

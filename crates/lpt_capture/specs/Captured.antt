@@ -26,7 +26,7 @@ before b f = record { octets = b ++ f.octets; fault = f.fault }
 
 -- ---- the front of the file
 
--- the 32-bit number at a place, its greatest octet first, or last where the order is turned
+-- the 32-bit number at a place, its greatest octet first, or last if the order is turned
 abbrev pub number_at : (turned : Bool) → List ℕ → ℕ → ℕ
 number_at false b i =
     16777216 * slice_index b i + 65536 * slice_index b (i + 1) + 256 * slice_index b (i + 2)
@@ -79,7 +79,7 @@ records_of turned at b = some_records (length b) turned at b
 
 -- ---- the file
 
--- a capture: nothing is found where its front isn't whole, or where it has another link type
+-- a capture: nothing is found if its front isn't whole, or if it has another link type
 abbrev pub found_in_capture : (turned : Bool) → List ℕ → Finding
 found_in_capture turned b =
     if nat_lt (length b) 24 then broken_finding [] Header

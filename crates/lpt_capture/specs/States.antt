@@ -19,7 +19,7 @@ octets_held a = take a.have a.octets
 abbrev pub source_of : {S : Type 0} → Ahead S → S
 source_of a = a.source
 
--- the octets that are still to be given, where those of the source are known
+-- the octets that are still to be given, if those of the source are known
 abbrev pub octets_known : {S : Type 0} → (S → Option (List ℕ)) → Ahead S → Option (List ℕ)
 octets_known remaining a = prepend_known (octets_held a) (remaining (source_of a))
 
@@ -58,7 +58,7 @@ IsBroken Ended = ⊥
 IsBroken (Cut at) = ⊥
 IsBroken (Broken fault) = ⊤
 
--- what is wrong with the file, where that was found
+-- what is wrong with the file, if that was found
 abbrev pub fault_at : Place → Option CaptureFault
 fault_at Front = None
 fault_at Plain = None
@@ -79,7 +79,7 @@ place_of c = c.place
 abbrev pub has_failed : {S : Type 0} → Captured S → Bool
 has_failed c = c.failed
 
--- what is still to be found, where the octets of the source are known
+-- what is still to be found, if the octets of the source are known
 abbrev pub finding_ahead : {S : Type 0} → (S → Option (List ℕ)) → Captured S → Option Finding
 finding_ahead remaining c = option_map (found_at c.place) (octets_known remaining c.ahead)
 
@@ -87,7 +87,7 @@ finding_ahead remaining c = option_map (found_at c.place) (octets_known remainin
 abbrev pub octets_of : Finding → List ℕ
 octets_of f = f.octets
 
--- the octets that are still to be given, where those of the source are known
+-- the octets that are still to be given, if those of the source are known
 abbrev pub octets_left : {S : Type 0} → (S → Option (List ℕ)) → Captured S → Option (List ℕ)
 octets_left remaining c = option_map octets_of (finding_ahead remaining c)
 

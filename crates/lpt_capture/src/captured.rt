@@ -65,7 +65,7 @@ impl<S: Source> Source for Captured<S> {
     ghost failed = { λ c. has_failed c };
 
     // What is still to be found stays the same but for the octets that are given: also what is
-    // wrong with the capture. A read fails only where one of the source did, or something else is
+    // wrong with the capture. A read fails only if one of the source did, or something else is
     // wrong than that the capture ends within a record.
     fn read(&mut self, buf: &mut [u8]) -> Option<usize>
         ensures bound { IfSome result (λ n. n ≤ length buf.new) }
@@ -162,7 +162,7 @@ impl<S: Source> Captured<S> {
         }
     }
 
-    // Reads the front of the file, where that wasn't done yet.
+    // Reads the front of the file, if that wasn't done yet.
     fn settle_front(&mut self) -> bool
         ensures same { Gives (finding_ahead S.remaining self.old)
             (finding_ahead S.remaining self.new) [] }

@@ -14,7 +14,7 @@ pub enum CaptureFault {
     /// Its link type isn't 147.
     #[error("octet 20: the capture's link type is {0}, and not 147")]
     LinkType(u32),
-    /// The record that begins at this octet has so many octets.
+    /// The record that begins at this octet has this many octets, and not 1 to 65,542.
     #[error("octet {0}: a record of {1} octets, and not of 1 to 65542")]
     Size(u64, u32),
     /// It is one of another form, pcapng, which isn't read.

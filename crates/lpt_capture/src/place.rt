@@ -20,10 +20,10 @@ const LINK_TYPE: u32 = 147;
 /// How many octets a packet has at most.
 const LONGEST: u32 = 65_542;
 
-/// At which place of a file it is.
+/// At which place of a file a reader of captures is.
 #[derive(Clone, Copy)]
 pub enum Place {
-    /// In front, if it isn't known yet whether it is a capture.
+    /// At the file's front: it isn't known yet whether the file is a capture.
     Front,
     /// In octets that are no capture.
     Plain,
@@ -42,9 +42,9 @@ pub enum Place {
 pub struct Record {
     /// Whether the numbers of the capture have their last octet first.
     pub(crate) turned: bool,
-    /// If it begins.
+    /// Where it begins in the file.
     pub(crate) at: u64,
-    /// If the next one begins.
+    /// Where the next one begins.
     pub(crate) next: u64,
     /// How many of its octets are still to come.
     pub(crate) left: usize,

@@ -52,7 +52,7 @@ abbrev pub of_part : (user : ℕ) → Result Piece PartFault → Result Named Sk
 of_part user (Ok q) = Ok (record { user = user; piece = q })
 of_part user (Err e) = Err (NoPart e)
 
--- the part that a message of this type carries, where it is of a type that carries one
+-- the part that a message of this type carries, if it is of a type that carries one
 abbrev pub of_kind : Reading → Said → Option Kind → Result Named Skip
 of_kind r s None = Err (OtherType s.service s.subtype)
 of_kind r s (Some kind) =
@@ -77,7 +77,7 @@ of_sight r (Ok (APacket f)) =
 unfoldable pub part_carried : Reading → List ℕ → Result Named Skip
 part_carried r b = of_sight r (verdict_as r.layout.has_checksum b)
 
--- how a stream of these packets is cut: by checksums, where they have one
+-- how a stream of these packets is cut: by checksums, if they have one
 abbrev pub cut_for : (has_checksum : Bool) → Cut
 cut_for true = Sealed
 cut_for false = Framed

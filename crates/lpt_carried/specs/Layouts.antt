@@ -31,7 +31,7 @@ abbrev pub tailored_in : Direction → Layouts → Tailored
 tailored_in Up l = l.telecommands
 tailored_in Down l = l.telemetry
 
--- a part size, where there is one, is 1 to 65,535 octets
+-- a part size, if there is one, is 1 to 65,535 octets
 abbrev pub SizeIsSize : Option ℕ → Type 0
 SizeIsSize size = IfSome size IsPartSizeAs
 

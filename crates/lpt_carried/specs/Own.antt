@@ -24,7 +24,7 @@ pub record IsOwn (r : Reading) (p : ℕ) : Type 0 where
 abbrev pub in_own : Named → NamedPart
 in_own c = part_named c.user c.piece
 
--- the part that has arrived, where one has
+-- the part that has arrived, if one has
 abbrev pub part_arrived : Arrival → Option NamedPart
 part_arrived (APart q) = Some q
 part_arrived _ = None

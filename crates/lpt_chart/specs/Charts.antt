@@ -11,7 +11,7 @@ use Rattle.lpt_chart.specs.Stories.{Story, story, story_of}
 use Rattle.lpt_chart.specs.Telling.{rest_told, tellings}
 use Rattle.lpt_chart.specs.Tracks.{drawn_in, stretches}
 
--- A text is a picture of so many events, where this source is configured: a title and the counts of
+-- A text is a picture of so many events, if this source is configured: a title and the counts of
 -- what happened; shapes that tell nothing, as their type says; and the others, which tell what was
 -- drawn in the rows that are chosen, and nothing else. Each is written as one element. The bars are
 -- the stretches of all tracks to the end, each once.

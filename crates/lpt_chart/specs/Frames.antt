@@ -13,7 +13,7 @@ hidden_above c rows =
     option_map_or (λ from. option_map_or (λ i. i) (position (λ r. nat_le from r.head.place) rows)
     (length rows)) c.from 0
 
--- how many rows there are up to the last that is drawn: 400 where nothing is chosen
+-- how many rows there are up to the last that is drawn: 400 if nothing is chosen
 abbrev pub row_end : Choice → List Row → ℕ
 row_end c rows =
     option_map_or (λ to. option_map_or (λ i. i) (position (λ r. nat_lt to r.head.place) rows)

@@ -2,7 +2,7 @@
 use Rattle.std.specs.Prelude.{ℕ, List, slice_get, unwrap_or}
 use Rattle.lpt_chart.specs.declared.marks.Kind.{Kind}
 
--- the octet at a place, 0 where there is none
+-- the octet at a place, 0 if there is none
 abbrev pub octet_at : List ℕ → ℕ → ℕ
 octet_at octets i = unwrap_or (slice_get octets i) 0
 

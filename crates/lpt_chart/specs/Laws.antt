@@ -19,7 +19,7 @@ pub record Delivery : Type 0 where
   pub lane : Lane
   pub outcome : Outcome
 
--- the delivery of an entry, where it is one
+-- the delivery of an entry, if it is one
 abbrev pub delivery_in : ℕ → Event → Answer → List Delivery
 delivery_in place (Deliver l) (answer.Delivered o) =
     record { place = place; lane = l; outcome = o } ∷ []
@@ -58,7 +58,7 @@ DrawsReleases journal refused =
     filter is_release (shown_by (story journal refused).flights)
     ≡ filter is_release (deliveries_from 0 journal)
 
--- a place, where this is so
+-- a place, if this is so
 abbrev pub where_place : Bool → ℕ → List ℕ
 where_place so place = if so then place ∷ [] else []
 
@@ -67,7 +67,7 @@ abbrev pub tells_ticks : Mark → Bool
 tells_ticks (mark.Ticks side) = true
 tells_ticks _ = false
 
--- whether an entry draws a row of its own: it does where nothing was drawn before, and is no tick,
+-- whether an entry draws a row of its own: it does if nothing was drawn before, and is no tick,
 -- which may go on with the last row
 abbrev pub is_tick : Event → Bool
 is_tick (Tick side) = true

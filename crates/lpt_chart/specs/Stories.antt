@@ -95,7 +95,7 @@ abbrev pub takes : Lane → Mark → Bool
 takes lane (mark.Took l) = same_lane lane l
 takes lane _ = false
 
--- a delivery's row: right below the row in which its lane took the packet, where that is the last
+-- a delivery's row: right below the row in which its lane took the packet, if that is the last
 unfoldable pub landed_by : Story → Lane → Story
 landed_by s lane =
     let side = receiver_side (lane_direction lane) in
@@ -222,7 +222,7 @@ came_to s d (outcome.AbortNoted name reason) = ends s Ground (Sender name)
 came_to s d (outcome.Broken name reason) = ends s (receiver_side d) (Reception name)
 came_to s d _ = s
 
--- the sender of a report of data, where the execution of a job opened one
+-- the sender of a report of data, if the execution of a job opened one
 unfoldable pub opened_by : Story → Applied → Story
 opened_by s (Done (Some name)) = comes_to s Craft (Sender name) Sending
 opened_by s _ = s

@@ -38,7 +38,7 @@ told_in (shape.Track words more s) = Track words s.x s.y s.high ∷ []
 unfoldable pub tellings : List Shape → List Told
 tellings shapes = flat_map told_in shapes
 
--- it is told, where this is so
+-- it is told, if this is so
 abbrev pub where_so : Bool → Told → List Told
 where_so so t = if so then t ∷ [] else []
 
@@ -51,7 +51,7 @@ unfoldable pub mark_told : Frame → (at : ℕ) → Mark → List Told
 mark_told f at (mark.Put d number noise) = bead_told (start_x f d noise) at number
 mark_told f at _ = []
 
--- a row, where its height is drawn: its place in the journal, its words, and its mark
+-- a row, if its height is drawn: its place in the journal, its words, and its mark
 abbrev pub row_told : Frame → Row → List Told
 row_told f r =
     if shows f r.head.at r.head.at
@@ -60,7 +60,7 @@ row_told f r =
     ++ mark_told f r.head.at r.head.mark
     else []
 
--- a stretch of a track, where some of its heights is drawn
+-- a stretch of a track, if some of its heights is drawn
 abbrev pub stretch_told : (source : ℕ) → Frame → Turn → (column to : ℕ) → List Told
 stretch_told source f t column to =
     where_so (shows f t.at to)
@@ -70,22 +70,22 @@ stretch_told source f t column to =
 unfoldable pub bar_told : (source : ℕ) → Frame → Bar → List Told
 bar_told source f b = stretch_told source f b.track.turn b.column b.to
 
--- a packet's way from a height to another: its number beside it, where one of them isn't drawn
+-- a packet's way from a height to another: its number beside it, if one of them isn't drawn
 unfoldable pub path_told : Frame → (number at end : ℕ) → List Told
 path_told f number at end =
     if shows f at at
     then where_so (not (shows f end end)) (Beside (y_of at + 7 + 4) number)
     else where_so (shows f end end) (Beside (y_of end - 7 + 4) number)
 
--- the end of a packet's way, where it was delivered and the height is drawn
+-- the end of a packet's way, if it was delivered and the height is drawn
 abbrev pub end_told : Frame → Lane → (to number : ℕ) → Option Outcome → List Told
 end_told f lane to number None = []
 end_told f lane to number (Some o) =
     if shows f to to then bead_told (side_x f (receiver_side (lane_direction lane))) to number
     else []
 
--- what a lane took, where one of its three heights is drawn: its way to the lane's hand, in it up
--- to a height, and from there to the node, where it was delivered
+-- what a lane took, if one of its three heights is drawn: its way to the lane's hand, in it up
+-- to a height, and from there to the node, if it was delivered
 abbrev pub held_told : Frame → Lane → (to : ℕ) → Option Outcome → Option Held → List Told
 held_told f lane to o None = []
 held_told f lane to o (Some h) =
@@ -98,7 +98,7 @@ held_told f lane to o (Some h) =
 abbrev pub flight_told : Frame → Flight → List Told
 flight_told f fl = held_told f fl.lane fl.to (Some fl.outcome) fl.held
 
--- a loss, where one of its heights is drawn
+-- a loss, if one of its heights is drawn
 abbrev pub loss_told : Frame → Held → List Told
 loss_told f l =
     if shows f l.sent.at l.sent.at || shows f l.at l.at

@@ -29,7 +29,7 @@ pub record Stretch : Type 0 where
   pub turn : Turn
   pub to : ℕ
 
--- that of a turn, where it brings a thing to a stage and not to its end
+-- that of a turn, if it brings a thing to a stage and not to its end
 abbrev pub stretch_of : Turn → (to : ℕ) → Option Stage → List Stretch
 stretch_of t to None = []
 stretch_of t to (Some stage) = record { turn = t; to = to } ∷ []

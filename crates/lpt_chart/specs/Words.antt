@@ -42,7 +42,7 @@ stage_words (Some Claimed) = codes " is claimed"
 stage_words (Some Committed) = codes " is committed"
 stage_words _ = []
 
--- what is open at a node, where this source is configured
+-- what is open at a node, if this source is configured
 unfoldable pub turn_words : (source : ℕ) → Side → Option Thing → Option Stage → List ℕ
 turn_words source side None stage = []
 turn_words source side (Some (Sender name)) stage =

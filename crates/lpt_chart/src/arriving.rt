@@ -152,7 +152,7 @@ impl Picture {
         Ok(())
     }
 
-    // The sender of a report of data, where the execution of a job opened one.
+    // The sender of a report of data, if the execution of a job opened one.
     #[tactic(auto, unfolding(crate::specs::Stories::opened_by))]
     fn open_report(&mut self, applied: Applied) -> Result<(), AllocError>
         ensures { OnOk result (story_of self.new ≡ opened_by (story_of self.old) applied) }

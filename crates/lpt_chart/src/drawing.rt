@@ -36,7 +36,7 @@ pub(crate) fn draw_journal(
     }
 }
 
-// The refused lines behind the entry of this place, where there are some.
+// The refused lines behind the entry of this place, if there are some.
 fn found_after(place: u64, refused: &[Refusal]) -> Option<usize>
     ensures at { result ≡ position (λ r. nat_lt place r.place) refused.now }
     ensures bound { IfSome result (λ i. i ≤ length refused.now) }
@@ -225,7 +225,7 @@ impl Picture {
         self.end(side, Thing::Sender(name))
     }
 
-    // A packet is lost. Its row stands at ground where there is no such packet.
+    // A packet is lost. Its row stands at ground if there is no such packet.
     fn lose_packet(&mut self, number: u64) -> Result<(), AllocError>
         ensures { OnOk result
             (story_of self.new ≡ lost_now (said_row (story_of self.old)

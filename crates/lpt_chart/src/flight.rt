@@ -12,7 +12,7 @@ use lpt_events::{Lane, Outcome, Side};
 use lpt_packet::{Direction, Octets};
 use std::alloc::{AllocError, Global};
 
-// The look of a packet's way: dotted where it is noise, and dashed where a lane took it before.
+// The look of a packet's way: dotted if it is noise, and dashed if a lane took it before.
 fn way_look(sent: Sent) -> u8 {
     let style = if sent.noise {
         Style::WayNoise
@@ -56,8 +56,8 @@ fn add_stub(
     add(out, Shape::Beside(beside, end + 4, direction as u8, number))
 }
 
-// Adds a line of a packet from a point at one height to another at a later one: whole where both
-// heights are drawn, a stub at the one that is drawn, and else nothing.
+// Adds a line of a packet from a point at one height to another at a later one: whole if both
+// heights are drawn, a stub at the one that is drawn, and otherwise nothing.
 #[tactic(auto, unfolding(crate::specs::Telling::path_told, crate::specs::Frames::y_of))]
 fn add_path(
     out: &mut Vec<Shape>,
@@ -83,7 +83,7 @@ fn add_path(
     }
 }
 
-// Where a way ends, in front of the bead: an arrow, or a bar where nothing was made of the packet.
+// Where a way ends, in front of the bead: an arrow, or a bar if nothing was made of the packet.
 fn tip(frame: Frame, direction: Direction, to: u32, number: u64, outcome: Outcome) -> Free {
     let (y, before) = (y_of(to), half(number) + 4);
     let (x, sign) = match direction {
@@ -107,8 +107,8 @@ pub(crate) fn release_ring(x: u64, to: u32, half: u64, direction: Direction) -> 
     Free::Box(left, top, 2 * half + 6, 20, 10, Style::Ring.way(direction))
 }
 
-// The bead of a delivery: in a ring where a message is released, square where a report is noted,
-// dashed where nothing came of it.
+// The bead of a delivery: in a ring if a message is released, square if a report is noted,
+// dashed if nothing came of it.
 fn add_outcome(
     out: &mut Vec<Shape>,
     x: u64,

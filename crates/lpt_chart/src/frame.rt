@@ -9,8 +9,8 @@ use crate::title::{title_room, title_wide};
 use crate::tracks::Bar;
 use lpt_events::{Lane, Side};
 
-/// If the columns of a picture stand: the right edge of the words at ground's side; the middle of
-/// ground's line of life, from which the spacecraft's is 380 pixels right; the left edge of the
+/// Where the columns of a picture stand: the right edge of the words at ground's side; the middle
+/// of ground's line of life, from which the spacecraft's is 380 pixels right; the left edge of the
 /// words at the spacecraft's side; the width of all; the tops of the nodes' boxes above the rows,
 /// and of the rows; and the first height that is drawn, and that at which the drawing ends.
 #[derive(Clone, Copy)]
@@ -25,14 +25,14 @@ pub(crate) struct Frame {
     pub(crate) bottom: u32,
 }
 
-// Where the rows of this place or a later one begin, where there are some.
+// Where the rows of this place or a later one begin, if there are some.
 fn found_from(place: u64, rows: &[Row]) -> Option<usize>
     ensures { result ≡ position (λ r. nat_le place r.head.place) rows.now }
 {
     rows.iter().position(|row| place <= row.head.place)
 }
 
-// Where the rows of a later place begin, where there are some.
+// Where the rows of a later place begin, if there are some.
 fn found_behind(place: u64, rows: &[Row]) -> Option<usize>
     ensures { result ≡ position (λ r. nat_lt place r.head.place) rows.now }
 {

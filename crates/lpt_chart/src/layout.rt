@@ -23,7 +23,7 @@ use lpt_events::{Lane, Side};
 use lpt_packet::Octets;
 use std::alloc::{AllocError, Global};
 
-// Adds letters at a point, of which so many are seen at most, where there are some.
+// Adds letters at a point, of which so many are seen at most, if there are some.
 fn add_letters(
     out: &mut Vec<Free>,
     x: u64,
@@ -40,7 +40,7 @@ fn add_letters(
     Ok(())
 }
 
-// That rows are left out, where some are.
+// Says that rows are left out, if some are.
 fn add_hidden(out: &mut Vec<Free>, y: u64, choice: Choice, rows: &[Row]) -> Result<(), AllocError> {
     let above = hidden_above(choice, rows);
     let below = rows.len().saturating_sub(row_end(choice, rows));

@@ -177,7 +177,7 @@ fn with_hand(hands: Hands, lane: Lane, held: Option<Held>) -> Hands
     }
 }
 
-// Marks the packet of a number as gone, where there is one.
+// Marks the packet of a number as gone, if there is one.
 fn mark_gone(sent: &mut [Sent], number: u64)
     ensures { sent.new ≡ without sent.old number }
 {

@@ -89,8 +89,8 @@ impl Picture {
         Ok(())
     }
 
-    // A row more, whose ground is dark where that of the last isn't, but if it goes on with the
-    // last. One that does neither that nor shows its place has no line to its words.
+    // Adds a row. Its ground is dark if that of the last isn't, unless it goes on with the last. A
+    // row that neither goes on with the last nor shows its place has no line to its words.
     #[tactic(auto, unfolding(crate::specs::Stories::row_more))]
     pub(crate) fn row(
         &mut self,
@@ -171,7 +171,7 @@ impl Picture {
         }
     }
 
-    // A delivery's row: right below that in which its lane took the packet, where that is the last.
+    // A delivery's row: right below that in which its lane took the packet, if that is the last.
     #[tactic(auto, unfolding(crate::specs::Stories::landed_by))]
     pub(crate) fn land(
         &mut self,
@@ -232,7 +232,7 @@ impl Picture {
         Ok(())
     }
 
-    // How many parts are kept of a thing at a node, and what is known of its message, where it is
+    // How many parts are kept of a thing at a node, and what is known of its message, if it is
     // open there.
     pub(crate) fn known_of(&self, side: Side, thing: Thing) -> (u16, About) {
         let turn = Turn {

@@ -55,7 +55,7 @@ pub(crate) fn start_x(frame: Frame, direction: Direction, noise: bool) -> u64
     }
 }
 
-// The mark of a row, where it has one that is drawn.
+// The mark of a row, if it has one that is drawn.
 #[tactic(auto, unfolding(crate::specs::Telling::mark_told))]
 fn add_mark(out: &mut Vec<Shape>, frame: Frame, at: u32, mark: Mark) -> Result<(), AllocError>
     ensures { OnOk result
@@ -144,7 +144,7 @@ pub(crate) fn add_base(out: &mut Vec<Free>, frame: Frame, row: &Row) -> Result<(
     Ok(())
 }
 
-// Adds a row's words at a node's side, where it has some.
+// Adds a row's words at a node's side, if it has some.
 fn add_words(
     out: &mut Vec<Shape>,
     frame: Frame,
@@ -162,7 +162,7 @@ fn add_words(
     add(out, Shape::Said(x, y, look, says.words.copy()?))
 }
 
-// Adds a row's place in the journal, where it is shown.
+// Adds a row's place in the journal, if it is shown.
 fn add_place(out: &mut Vec<Shape>, so: bool, y: u64, place: u64) -> Result<(), AllocError>
     ensures { OnOk result
         (tellings out.new.items ≡ tellings out.old.items ++ where_so so (Place y place)) }

@@ -16,8 +16,8 @@ pub(crate) enum Sign {
     Hourglass,
 }
 
-/// A shape that tells nothing, by whole numbers of pixels. If it looks so, by the tables of
-/// `style`, is said last, but for words.
+/// A shape that tells nothing, by whole numbers of pixels. How it looks, by the tables of `style`,
+/// is said last, but for words.
 #[derive(Drop)]
 pub(crate) enum Free {
     /// A line from a point to a point.

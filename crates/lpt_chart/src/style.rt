@@ -107,12 +107,12 @@ pub(crate) const DOWNS: [&str; 15] = [
 ];
 
 impl Style {
-    /// The number of its look, where that has no direction.
+    /// The number of its look, if that has no direction.
     pub(crate) fn plain(self) -> u8 {
         self as u8
     }
 
-    /// The number of its look, where that has a direction.
+    /// The number of its look, if that has a direction.
     pub(crate) fn way(self, direction: Direction) -> u8 {
         match direction {
             Direction::Up => self as u8,

@@ -22,7 +22,7 @@ use std::alloc::{AllocError, Global};
 const LETTERS_HEAD: &str =
     " role='img' font-family='DejaVu Sans Mono, Menlo, Consolas, monospace' font-size='12' fill='#1a1a1a'>\n<title>";
 
-/// How colours are turned where the ground is dark, and how a picture is read, in front of how
+/// How colours are turned if the ground is dark, and how a picture is read, in front of how
 /// much has happened.
 const DESC_HEAD: &str = "</title>\n<style>@media(prefers-color-scheme:dark){\
     [fill='#ffffff']{fill:#161616}[fill='#f6f6f6']{fill:#202020}[fill='#1a1a1a']{fill:#e8e8e8}\
@@ -139,7 +139,7 @@ pub fn write_escaped(out: &mut String, text: &[u8]) -> Result<(), AllocError>
     Ok(())
 }
 
-// Writes a text behind another, as it is seen: cut where it is too wide.
+// Writes a text behind another, as it is seen: cut if it is too wide.
 #[tactic(auto, unfolding(crate::specs::Shapes::seen_text))]
 fn write_seen(out: &mut String, most: u64, text: &[u8]) -> Result<(), AllocError>
     ensures { OnOk result (string_bytes out.new ≡ string_bytes out.old ++ seen_text most text.now) }

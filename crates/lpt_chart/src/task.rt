@@ -6,7 +6,7 @@ ghost use Rattle.lpt_chart.specs.Kinds.{kind_in, octet_at};
 use crate::marks::{Kind, Task};
 use lpt_packet::Direction;
 
-// The octet at a place, 0 where there is none.
+// The octet at a place, 0 if there is none.
 fn octet_at(octets: &[u8], at: u8) -> u8
     ensures { result ≡ octet_at octets.now at }
 {

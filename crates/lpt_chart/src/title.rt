@@ -2,7 +2,7 @@
 
 ghost use Rattle.std.specs.Prelude.{◌≤◌, length, IfSome};
 
-// The first space, where there is one.
+// The first space, if there is one.
 fn space_behind(tail: &[u8]) -> Option<usize>
     ensures { IfSome result (λ i. i ≤ length tail.now) }
 {
@@ -33,7 +33,7 @@ fn title_front(text: &[u8], most: usize) -> &[u8] {
     text.split_at(line_end(text, most)).0
 }
 
-// A text without the space at its front, where there is one.
+// A text without the space at its front, if there is one.
 fn behind_space(text: &[u8]) -> &[u8] {
     match text {
         [b' ', more @ ..] => more,

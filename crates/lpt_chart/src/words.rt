@@ -67,7 +67,7 @@ fn code_word(code: FailureCode) -> &'static str {
     WORDS[code as usize]
 }
 
-/// Of how many parts, where that is known.
+/// Of how many parts, if that is known.
 pub(crate) fn of_words(alloc: Global, parts: u16) -> Result<String, AllocError> {
     if parts == 0 {
         return Ok(String::new(alloc));

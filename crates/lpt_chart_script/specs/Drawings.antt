@@ -33,12 +33,12 @@ left_by w refused bad = record { world = w; refused = refused; bad = bad }
 abbrev pub places : List Refusal → List ℕ
 places refused = map (λ r. r.place) refused
 
--- that of a line, where it was refused
+-- that of a line, if it was refused
 abbrev pub refused_at : (place : ℕ) → Option StepFault → List ℕ
 refused_at place None = []
 refused_at place (Some fault) = place ∷ []
 
--- what a line and the rest leave: the rest isn't run where the line is unreadable
+-- what a line and the rest leave: the rest isn't run if the line is unreadable
 abbrev pub run_on : Ran → List ℕ → ScriptRun → (bad : Option ℕ) → ScriptRun
 run_on ran refused rest (Some n) = left_by ran.world refused (Some n)
 run_on ran refused rest None = rest

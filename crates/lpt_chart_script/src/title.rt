@@ -2,7 +2,7 @@
 
 use std::alloc::{AllocError, Global};
 
-/// If in a line an octet stands.
+/// Where in a line an octet stands.
 #[derive(Clone, Copy, PartialEq, Eq)]
 enum TitlePlace {
     /// Before anything but spaces.

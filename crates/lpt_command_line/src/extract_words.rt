@@ -46,7 +46,7 @@ pub(crate) fn extract_command<'a>(
     }))
 }
 
-// The address at which the image begins, where one is given.
+// The address at which the image begins, if one is given.
 fn from_in<'a>(matches: &ArgMatches<'a>) -> Result<Option<u32>, WordFault<'a>> {
     match matches.get_str("from") {
         Some(word) => match number_in(word) {

@@ -83,7 +83,7 @@ pub(crate) fn list_in<'a>(matches: &ArgMatches<'a>) -> Result<&'a str, WordFault
     }
 }
 
-// The folder into which every message is written, where that is asked for, and no message is named.
+// The folder into which every message is written, if that is asked for, and no message is named.
 //
 // Errors: `Beside`.
 pub(crate) fn each_in<'a>(
@@ -123,7 +123,7 @@ pub(crate) fn join_command<'a>(
     }))
 }
 
-// What names the message, where that is given.
+// What names the message, if that is given.
 //
 // Errors: `Id`.
 fn id_in<'a>(matches: &ArgMatches<'a>) -> Result<Option<GivenName>, WordFault<'a>> {

@@ -28,7 +28,7 @@ pub struct GroundWords<'a> {
     pub source: SourceWords<'a>,
     /// The first sequence count, 0 to 16,383.
     pub count: u16,
-    /// How many milliseconds nothing comes before what is open is sent again.
+    /// For how many milliseconds nothing comes before what is open is sent again.
     pub wait: u32,
     /// After how many such waits in a row that settle nothing it gives up.
     pub tries: u32,

@@ -52,7 +52,7 @@ pub(crate) fn decode_command<'a>(matches: &ArgMatches<'a>) -> Result<Command<'a>
     }))
 }
 
-// The path of the layouts, where one is given.
+// The path of the layouts, if one is given.
 pub(crate) fn layout_in<'a>(matches: &ArgMatches<'a>) -> Option<&'a str> {
     matches.get_str("layout")
 }

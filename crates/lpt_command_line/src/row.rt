@@ -77,7 +77,7 @@ impl Need {
         !matches!(self, Need::Else(_) | Need::Any(_))
     }
 
-    // The names by which help calls them, where it has others than its own.
+    // The names by which help calls them, if it has others than its own.
     pub(crate) fn names(self) -> &'static [&'static str] {
         match self {
             Need::Several(names) => names,
@@ -85,7 +85,7 @@ impl Need {
         }
     }
 
-    // What it is where it isn't there.
+    // What it is if it isn't there.
     pub(crate) fn other(self) -> &'static [&'static str] {
         match self {
             Need::Else(other) | Need::Any(other) => other,

@@ -11,7 +11,7 @@ pub enum WordFault<'a> {
     Wanted(&'static str),
     /// This one is no address.
     Address(&'a str),
-    /// If this place is, this word names no message by an identifier and a source up to these.
+    /// At this place, the word names no message by an identifier and a source up to these.
     Id {
         place: &'static str,
         word: &'a str,
@@ -20,7 +20,7 @@ pub enum WordFault<'a> {
     },
     /// This one is no number of octets.
     Length(&'a str),
-    /// Behind this address no number of octets stands.
+    /// No number of octets stands behind this address.
     NoLength(&'a str),
     /// So many octets are wanted of each request: none, or more than the limit that one holds.
     Each {
@@ -168,17 +168,17 @@ fn no_odds(alloc: Global, word: &str) -> Result<String, AllocError> {
     format!(in alloc; "invalid value '{word}' for '<P>': not a percentage from 0% to 100%")
 }
 
-// What is reported where standard input is to be the octets of two areas.
+// What is reported if standard input is to be the octets of two areas.
 fn shared_input(alloc: Global) -> Result<String, AllocError> {
     format!(in alloc; "'-' can be read for one area only, and is FILE if no path is given")
 }
 
-// What is reported where standard input is to be a file of octets.
+// What is reported if standard input is to be a file of octets.
 fn no_input(alloc: Global) -> Result<String, AllocError> {
     format!(in alloc; "'-' can't be read here: give the octets' path")
 }
 
-// What is reported where standard input or output is to be a file or a folder.
+// What is reported if standard input or output is to be a file or a folder.
 fn no_path(alloc: Global, place: &str) -> Result<String, AllocError> {
     format!(in alloc; "the argument '{place}' cannot be '-': a file of that name is ./-")
 }

@@ -30,7 +30,7 @@ pub(crate) struct Content {
 }
 
 impl Content {
-    /// Of a machine without files, with room enough.
+    /// The content of a machine without files, with room enough.
     pub(crate) fn new(alloc: Global) -> Content {
         Content {
             alloc,

@@ -41,7 +41,7 @@ pub data Saying : Type 0 where
   Foreign : (apid : ℕ) → Saying
   Other : Saying
 
--- the areas, where they are of this memory
+-- the areas, if they are of this memory
 abbrev pub areas_of : (memory : ℕ) → Option (Request Checked) → Saying
 areas_of m None = Unread
 areas_of m (Some r) = Areas (if r.memory == m then r.areas else [])

@@ -19,7 +19,7 @@ is_within from octets c =
 abbrev pub octets_at : (from : ℕ) → List ℕ → Checked → List ℕ
 octets_at from octets c = take c.len (drop (c.address - from) octets)
 
--- their checksum, where they have all of it
+-- their checksum, if they have all of it
 abbrev pub checksum_at : (from : ℕ) → List ℕ → Checked → Option ℕ
 checksum_at from octets c =
     if is_within from octets c then Some (checksum (octets_at from octets c)) else None
@@ -40,7 +40,7 @@ abbrev pub AreShown : (from : ℕ) → List ℕ → List Checked → (a b : ℕ)
 AreShown from octets checks a b =
     (n : ℕ) → a ≤ n → n < b → is_shown from octets checks n ≡ true
 
--- the first address of the octets that isn't shown, where one isn't
+-- the first address of the octets that isn't shown, if one isn't
 abbrev pub IsFirstOpen : (from : ℕ) → List ℕ → List Checked → Option ℕ → Type 0
 IsFirstOpen from octets checks None = AreShown from octets checks from (from + length octets)
 IsFirstOpen from octets checks (Some n) =

@@ -13,7 +13,7 @@ impl Others {
     ghost use Rattle.std.specs.Prelude.{◌≡◌, ℕ, ◌++◌, ◌∷◌, List, []};
     ghost use Rattle.lpt_compare.specs.Read.{AreOthers};
 
-    // None.
+    // None of them.
     pub(crate) fn new() -> Others
         ensures { AreOthers [] result }
     {

@@ -34,7 +34,7 @@ const LAST_PART: u8 = 3;
 // What a packet is to who looks for check reports of a memory.
 #[derive(Drop)]
 pub(crate) enum Said {
-    // One that says this of its areas: none, where it is another memory's.
+    // One that says this of its areas: none, if it is another memory's.
     Areas(Vec<Checked>),
     // One that isn't read.
     Unread,

@@ -15,7 +15,7 @@ use std::process::Abort;
 /// What the first octets of the memory are in the end, by the model in `bench/model`.
 const FRONT: [u8; 6] = [0, 0, 1, 2, 3, 4];
 
-// A file that is octets in memory, which is never replaced where it is full.
+// A file that is octets in memory, which is never replaced if it is full.
 #[derive(Drop)]
 struct InMemory {
     alloc: Global,
@@ -37,7 +37,7 @@ impl WholeFile for InMemory {
     }
 }
 
-// Files of the state and of the memory 1, or none where memory runs out.
+// Files of the state and of the memory 1, or none if memory runs out.
 fn files(alloc: Global, is_full: bool) -> Option<KeptFiles<InMemory>> {
     let mut saved = Vec::new(alloc);
     let memory = InMemory {

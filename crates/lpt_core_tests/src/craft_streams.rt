@@ -109,7 +109,7 @@ impl Clock for Still {
     }
 }
 
-// A spacecraft with a memory of 16 zeros, or none where memory runs out.
+// A spacecraft with a memory of 16 zeros, or none if memory runs out.
 pub(crate) fn craft(alloc: Global) -> Option<Spacecraft>
     ensures { IfSome result IsIdle }
 {

@@ -36,7 +36,7 @@ fn least(ledger: &Ledger) -> Option<u16> {
     }
 }
 
-// The code of the fault that a call answers, or 0 where it answers none. Of `OpenEach` it is how many
+// The code of the fault that a call answers, or 0 if it answers none. Of `OpenEach` it is how many
 // were refused.
 fn code(ledger: &mut Ledger, call: LedgerCall, id: u16) -> u16 {
     let name = name(id);

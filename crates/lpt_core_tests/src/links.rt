@@ -47,7 +47,7 @@ fn put(
     }
 }
 
-// What a link answers: a number, 0 where there is nothing to tell, or a fault.
+// What a link answers: a number, 0 if there is nothing to tell, or a fault.
 fn answer(alloc: Global, link: &mut Link, call: LinkCall) -> Result<u64, LinkFault> {
     let done = match call {
         LinkCall::Put(direction, tag, octets) => return put(alloc, link, direction, tag, octets),

@@ -54,7 +54,7 @@ fn part(fields: Fields) -> Option<Part<'static>>
     Part::new(7, fields.0, fields.1, fields.2, 8)
 }
 
-// What a reception answers to a part, where parts are taken in order or aren't.
+// What a reception answers to a part, by whether parts are taken in order.
 fn judge(filling: Filling, part: &Part<'_>, in_order: bool) -> StepSaid
     requires id { part.now.id ≡ filling.id }
     requires p { part.now.p ≡ filling.p }
@@ -122,7 +122,7 @@ static PAIRS: [(Fields, Fields, bool, StepSaid); 16] = [
     (THIRD, THIRD, true, StepSaid::Again),
     (FIRST, THIRD, true, GAP),
     (THIRD, FIRST, true, GAP),
-    // A contradiction comes before a gap, and where there is none.
+    // A contradiction comes before a gap, and also if there is no gap.
     (THIRD, LAST_OF_TWO, true, CONFLICT),
     (LAST, FOURTH, true, CONFLICT),
 ];

@@ -52,7 +52,7 @@ static ALIKE: [Config; 4] = [
     Config { clock: 7, ..CONFIG },
 ];
 
-// The fault of octets; none where they are read.
+// The fault of octets; none if they are read.
 fn fault_of(alloc: Global, side: Side, config: &Config, octets: &[u8]) -> Option<StateFault> {
     match read(alloc, side, config, octets) {
         Some(Err(fault)) => Some(fault),

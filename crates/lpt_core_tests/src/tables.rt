@@ -57,7 +57,7 @@ fn name_from(of: (u16, u16)) -> Name
     }
 }
 
-// Gives up a reception that came out whole, or puts it back, also where there is no memory.
+// Gives up a reception that came out whole, or puts it back, also if there is no memory.
 fn end(table: &mut Table, name: Name, whole: Whole, puts_back: bool) -> Expected
     requires out { IsSomeAnd table.old.out (λ o. o.0 ≡ name) }
     requires id { whole.before.id ≡ name.id }
@@ -116,7 +116,7 @@ fn offer(table: &mut Table, source: u16, part: &Part<'_>, now: u32, puts_back: b
     }
 }
 
-// Sets last ticks back, where none is below so many.
+// Sets last ticks back, if none is below so many.
 fn set_back(table: &mut Table, ticks: u32) -> bool
     requires settled { table.old.out ≡ None }
     ensures p { table.new.p ≡ table.old.p }

@@ -29,7 +29,7 @@ IsRenamed from to old new = (new to ≡ old from) × SameButBoth from to old new
 abbrev pub IsWritten : (part path octets : List ℕ) → (old new : Contents) → Type 0
 IsWritten part path octets old new = (new path ≡ Some octets) × SameButBoth part path old new
 
--- this became of what is on a disk, where that is known
+-- this became of what is on a disk, if that is known
 abbrev pub Step : (Contents → Contents → Type 0) → (old new : Option Contents) → Type 0
 Step P None None = ⊤
 Step P None (Some new) = ⊥

@@ -8,7 +8,7 @@ pub trait Disk: Drop {
     /// Why something couldn't be done.
     type Fault: Drop;
 
-    // What is at each path, where that is known.
+    // What is at each path, if that is known.
     ghost found: { Self → Option Contents };
 
     /// Makes a file at this path, in place of one that is there, with these octets, and as the file

@@ -27,7 +27,7 @@ pub fn write_whole<D: Disk>(
     }
 }
 
-/// The same, and forces the name to the disk.
+/// Does the same, and forces the name to the disk.
 ///
 /// Errors: they couldn't be written, and what was at the other path is there then; or its name
 /// alone couldn't be forced, and they are there.

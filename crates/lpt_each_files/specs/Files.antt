@@ -10,7 +10,7 @@ use Rattle.lpt_layout_each.specs.News.{Event, News, messages_of}
 abbrev pub NewFile : Type 0
 NewFile = List ℕ × List ℕ
 
--- the file at this path that news make, where they have a message
+-- the file at this path that news make, if they have a message
 abbrev pub files_at : (path : List ℕ) → News → List NewFile
 files_at path w = map (λ m. (path, m)) (messages_of w)
 
@@ -45,20 +45,20 @@ files_of front es = files_from front [] es
 
 -- ---- what a shelf took, and the files that were made there
 
--- with this event more, where it is known
+-- with this event more, if it is known
 abbrev pub with_event : Event → Option (List Event) → Option (List Event)
 with_event e heard = option_map (λ es. es ++ e ∷ []) heard
 
--- with these files more, where they are known
+-- with these files more, if they are known
 abbrev pub with_files : List NewFile → Option (List NewFile) → Option (List NewFile)
 with_files fs files = option_map (λ xs. xs ++ fs) files
 
--- a shelf that took nothing yet, where that is known
+-- a shelf that took nothing yet, if that is known
 abbrev pub IsNew : (heard : Option (List Event)) → (files : Option (List NewFile)) → Type 0
 IsNew None files = ⊤
 IsNew (Some es) files = (es ≡ []) × (files ≡ Some [])
 
--- just these files were made, where it is known what was taken at first
+-- just these files were made, if it is known what was taken at first
 abbrev pub Files :
     (first : Option (List Event)) → (files : Option (List NewFile)) → List NewFile → Type 0
 Files None files fs = ⊤

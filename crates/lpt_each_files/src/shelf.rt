@@ -11,10 +11,10 @@ pub trait Shelf: Drop {
     ghost use Rattle.lpt_layout_each.specs.Told.{news_of};
     ghost use Rattle.lpt_each_files.specs.Files.{NewFile, files_at, with_event, with_files};
 
-    // What it was told so far, where that is known.
+    // What it was told so far, if that is known.
     ghost heard: { Self → Option (List Event) };
 
-    // The files that were made, in their order, where they are known.
+    // The files that were made, in their order, if they are known.
     ghost files: { Self → Option (List NewFile) };
 
     /// Takes news of a name. If they have a message, a new file at this path gets its octets: all

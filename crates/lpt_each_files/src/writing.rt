@@ -33,8 +33,8 @@ use std::collections::BTreeMap;
 /// of the name from 0 on. The shelf is told of the rest.
 ///
 /// Errors: `Read` if a read failed, or if 2^64 - 1 pieces came; `Memory`; those of the shelf. The
-/// files of a front part of the messages are there then, if a read failed those of all that were
-/// whole.
+/// files of a front part of the messages are there then; if a read failed, those of all messages
+/// that were whole.
 pub fn write_messages<P: Source, S: Shelf>(
     alloc: Global,
     reading: &Reading,
@@ -58,7 +58,7 @@ pub fn write_messages<P: Source, S: Shelf>(
         (files_of (front_of folder.now reading.now.direction)
         (events reading.now any (packets_of pieces))))) }
 
-    // Where a read fails, those of all messages that what was read before it shows.
+    // If a read fails, there are the files of all messages that what was read before it shows.
     ensures settled { result.0 ≡ Err StreamFault.Read → TakenAll (cut reading.now)
         (P.remaining source.old) (P.remaining source.new) (λ pieces.
         Files (S.heard shelf) (S.files result.1)

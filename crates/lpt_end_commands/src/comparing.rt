@@ -27,7 +27,7 @@ pub fn write_dumps(
     Ok(Status::Done)
 }
 
-/// Compares what the first pass checked with the content: whether it is that.
+/// Compares what the first pass checked with the content, and answers whether they are the same.
 pub fn compare_checked(
     rt: &(impl Eprint + AllocGlobal),
     teller: Teller,
@@ -37,7 +37,7 @@ pub fn compare_checked(
     compare_all(rt, teller, errand, &errand.places, asked)
 }
 
-/// Compares what was read behind loads with what was loaded: whether it is that.
+/// Compares what was read behind loads with what was loaded, and answers whether they are the same.
 ///
 /// Errors: `Memory`.
 pub fn compare_read(

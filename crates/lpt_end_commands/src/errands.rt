@@ -238,7 +238,7 @@ fn flags_of(job: Job) -> Option<AckFlags> {
     })
 }
 
-// The octets that requests are of, area by area, where a part has so many.
+// The octets that requests are of, area by area, for parts of so many octets.
 fn all_places(
     alloc: Global,
     words: &GroundWords<'_>,
@@ -255,7 +255,7 @@ fn all_places(
     Ok(places)
 }
 
-// The octets of the area of this number, where a part has so many.
+// The octets of the area of this number, for parts of so many octets.
 fn places_of(
     words: &GroundWords<'_>,
     area: usize,

@@ -30,7 +30,7 @@ struct Rounds {
 }
 
 impl Charts {
-    /// Nothing was flown yet.
+    /// What is drawn before any pass was flown.
     pub fn new(alloc: Global) -> Charts {
         Charts {
             alloc,
@@ -40,7 +40,7 @@ impl Charts {
         }
     }
 
-    /// Before a round, and at the end of a pass, so much was counted, and this became of its
+    /// Notes, before a round and at the end of a pass, what was counted and what became of its
     /// requests.
     pub fn note(&mut self, counts: RunCounts, asked: &[Asked]) {
         if self.rounds.note(counts, asked).is_err() {
@@ -48,7 +48,7 @@ impl Charts {
         }
     }
 
-    /// A pass of this title has ended, in which this was put and counted.
+    /// Notes that a pass of this title has ended, with what was put and counted in it.
     pub fn end_pass(
         &mut self,
         title: Result<String, AllocError>,
@@ -97,7 +97,7 @@ impl Charts {
 }
 
 impl Rounds {
-    // Of a pass that begins.
+    // The rounds of a pass that begins.
     fn new(alloc: Global) -> Rounds {
         Rounds {
             begins: Vec::new(alloc),
@@ -133,7 +133,7 @@ impl Rounds {
     }
 }
 
-// This became of a request, if that is new it was heard in this round.
+// Notes what became of a request; if that is new, it was heard in this round.
 fn settle(request: &mut FlownRequest, fate: &Fate, round: u64) {
     if request.ending != Ending::Open {
         return;

@@ -146,8 +146,8 @@ fn sentence(code: u16) -> &'static str {
     }
 }
 
-/// How a pass of so many requests ended, of which so much was counted: whether all were completed.
-/// The only error is out of memory.
+/// How a pass of so many requests ended, of which so much was counted, and whether all were
+/// completed. The only error is out of memory.
 pub fn done_line(
     alloc: Global,
     json: bool,

@@ -17,7 +17,7 @@ const FRONT: &str = "lpt ground ";
 pub struct GroundNotes {
     rt: HostRuntime,
     teller: Teller,
-    // The path of the job's file, and its first line, where there is one.
+    // The path of the job's file, and its first line, if there is one.
     job: Option<(String, String)>,
     // Why it couldn't be written, if it couldn't.
     failure: Option<Failure>,
@@ -52,7 +52,7 @@ impl GroundNotes {
         })
     }
 
-    /// From now on it is noted what is to be drawn.
+    /// Notes from now on what is to be drawn.
     pub fn chart(&mut self) {
         self.charts = Some(Charts::new(self.rt.alloc()));
     }
@@ -62,7 +62,7 @@ impl GroundNotes {
         self.charts.as_mut()
     }
 
-    /// From now on nothing is kept.
+    /// Keeps nothing from now on.
     pub fn keep_no_more(&mut self) {
         self.job = None;
     }
@@ -77,7 +77,7 @@ impl GroundNotes {
         self.failure.take()
     }
 
-    // Writes the job's file, where there is one.
+    // Writes the job's file, if there is one.
     fn write(&self, asked: &[Asked]) -> Result<(), Failure> {
         let Some((path, line)) = &self.job else {
             return Ok(());
@@ -124,7 +124,7 @@ fn octets_of(alloc: Global, line: &str, asked: &[Asked]) -> Result<Vec<u8>, Allo
     Ok(octets)
 }
 
-// The job of this pass, at this path: where there is such a file, the pass hears its packets.
+// The job of this pass, at this path: if there is such a file, the pass hears its packets.
 fn job_at(
     rt: &HostRuntime,
     title: &str,

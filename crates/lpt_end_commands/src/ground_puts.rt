@@ -34,7 +34,7 @@ impl Puts {
         }
     }
 
-    /// A pass of these requests begins.
+    /// Begins to note what is put of a pass of these requests.
     pub fn begin(&mut self, asked: &[Asked]) {
         self.first = match asked.first() {
             Some(one) => count_of(one.octets.as_slice()),

@@ -237,8 +237,8 @@ pub fn title_of(
     Ok(title)
 }
 
-/// The same without the sequence counts, which another pass may have too. The only error is out of
-/// memory.
+/// What a pass is of, in words, without the sequence counts, which another pass may have too. The
+/// only error is out of memory.
 pub fn chart_title(alloc: Global, source: u16, places: &[Places]) -> Result<String, AllocError> {
     let mut title = areas_title(alloc, places)?;
     title.write(format_args!(" source {source}"))?;

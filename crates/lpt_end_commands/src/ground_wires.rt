@@ -18,7 +18,7 @@ pub type Ears<T> = Hearing<T, GroundNotes>;
 /// takes so few octets whole.
 pub type Wire<W> = FromStd<Watched<W>>;
 
-/// Hears what comes on standard input, and waits so many milliseconds for it. Where it resumes, it
+/// Hears what comes on standard input, and waits so many milliseconds for it. If it resumes, it
 /// goes on past octets with which no packet begins.
 ///
 /// Errors: `Read` if no thread could be started; `Memory`.
@@ -32,9 +32,9 @@ pub fn hear<T: Threads + Wait + Clock + Copy + Drop + Send + 'static>(
     hear_source(rt, threads, open_input(rt, STANDARD)?, resumes, wait, notes)
 }
 
-/// The same of what comes from this source.
+/// Hears what comes from this source in the same way.
 ///
-/// Errors: as there.
+/// Errors: as of `hear`.
 pub fn hear_source<T, S>(
     rt: &HostRuntime,
     threads: &T,
@@ -62,7 +62,7 @@ pub fn output_wire(rt: &HostRuntime) -> Wire<Printer<'_, HostRuntime>> {
     FromStd::new(Watched::new(io::writer(rt)))
 }
 
-/// The FIFO at this path, to which they are.
+/// The FIFO at this path, to which requests are written.
 ///
 /// Errors: `Write` if it can't be opened.
 pub fn fifo_wire(rt: &HostRuntime, path: &str) -> Result<Wire<File>, Failure> {

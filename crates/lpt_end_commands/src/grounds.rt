@@ -188,7 +188,7 @@ fn put_to_fifo<T: Wait + Clock + Drop>(
     put_over(rt, ears, words, errand, out, path)
 }
 
-// Carries an errand out over what has this name, which is closed where it can be, before what comes
+// Carries an errand out over what has this name, which is closed if it can be, before what comes
 // is heard on.
 pub(crate) fn put_over<T: Wait + Clock + Drop, W: Write + Drop>(
     rt: &HostRuntime,
@@ -272,7 +272,7 @@ fn carry_all<T: Wait + Clock + Drop, K: Sink + Drop>(
     }
 }
 
-// The status where the octets are as they should be, or aren't.
+// The status, by whether the octets are as they should be.
 fn status_of(alike: bool) -> Status {
     if alike { Status::Done } else { Status::Refused }
 }

@@ -34,7 +34,7 @@ impl<'a, R: Eprint + AllocGlobal> Log<'a, R> {
         self.has_skipped
     }
 
-    // Tells what isn't told of elsewhere, where it is more than what a packet did.
+    // Tells what isn't told of elsewhere, if it is more than what a packet did.
     fn warn(&self, told: Told) {
         let alloc = self.rt.alloc();
         let text = match told {

@@ -224,7 +224,7 @@ fn new_craft(
 }
 
 // The spacecraft that was kept in this file, if its memories are those of the words, or a new one
-// where there is no such file.
+// if there is no such file.
 fn craft_begun(
     rt: &HostRuntime,
     config: &Config,

@@ -7,7 +7,7 @@ use lpt_events::Config;
 use lpt_ground_run::{Asked, Heads, Names, PlanFault, Uplink, plan_uplink};
 use std::alloc::Global;
 
-/// So many octets the longest load of one request has.
+/// How many octets the longest load of one request has.
 pub const LONGEST_LOAD: u16 = 65_519;
 
 /// How many transaction identifiers there are.

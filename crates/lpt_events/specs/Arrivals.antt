@@ -41,7 +41,7 @@ part_subtype Down First = 1
 part_subtype Down Middle = 2
 part_subtype Down Last = 3
 
--- the kind of the part that a message of this service and subtype carries, where it carries one
+-- the kind of the part that a message of this service and subtype carries, if it carries one
 abbrev pub carried_kind : Direction → ℕ → ℕ → Option Kind
 carried_kind d service subtype =
     if not (service == 13) then None
@@ -92,7 +92,7 @@ sight_arrival side apid p b (Some (APacket f)) =
 unfoldable pub arrival : Side → (apid p : ℕ) → List ℕ → Arrival
 arrival side apid p b = sight_arrival side apid p b (packet_seen b)
 
--- the transaction that it is a part of, where it is a part
+-- the transaction that it is a part of, if it is a part
 abbrev pub part_name : Arrival → Option Name
 part_name (APart q) = Some q.name
 part_name _ = None

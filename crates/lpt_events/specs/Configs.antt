@@ -28,7 +28,7 @@ config_fault c =
     else if (c.outgoing == 0) || nat_lt 64 c.outgoing then Some configured.Outgoing
     else None
 
--- the fault is the first range that is left, or out of memory where none is
+-- the fault is the first range that is left, or out of memory if none is
 abbrev pub ConfigRefusedBy : Option ConfigFault → ConfigFault → Type 0
 ConfigRefusedBy (Some first) fault = fault ≡ first
 ConfigRefusedBy None fault = fault ≡ configured.Memory

@@ -14,7 +14,7 @@ is_damage_long c b = nat_lt (longest_on_link c.part_size) (length b)
 abbrev pub looks_whole : List ℕ → Bool
 looks_whole b = is_some (packet_seen b)
 
--- why octets can't be what the link's noise left, where they can't
+-- why octets can't be what the link's noise left, if they can't
 abbrev pub refusal_damage : Config → List ℕ → Option StepFault
 refusal_damage c b =
     if is_damage_long c b then Some Long

@@ -9,7 +9,7 @@ use Rattle.lpt_events.specs.LinkPackets.{longest_on_link}
 abbrev pub is_part_request : (service subtype : ℕ) → Bool
 is_part_request service subtype = is_some (carried_kind Up service subtype)
 
--- whether the packet of a plain request is too long, where its body has so many octets: 13 octets
+-- whether the packet of a plain request is too long, if its body has so many octets: 13 octets
 -- stand round the body
 abbrev pub is_too_long : Config → (len : ℕ) → Bool
 is_too_long c len = nat_lt (longest_on_link c.part_size) (len + 13)

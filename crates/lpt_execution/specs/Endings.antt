@@ -16,7 +16,7 @@ use Rattle.lpt_execution.specs.declared.ending.Ending.TheVariants.{Silent, Refus
 abbrev pub is_small : (p len : ℕ) → Bool
 is_small p len = nat_le (len + 19) (longest_on_link p)
 
--- why a reply with a body of so many octets isn't sent: where it is no packet of the link, it is
+-- why a reply with a body of so many octets isn't sent: if it is no packet of the link, it is
 -- opened as a message, and needs a free name and room for an open message more
 abbrev pub reply_fault : (p len : ℕ) → (free room : Bool) → Option FailureCode
 reply_fault p len free room =
@@ -43,7 +43,7 @@ ending p free room effect.Done = Carried None
 ending p free room (effect.Reply k body) =
     reply_ending (reply_fault p (length body) free room) k body
 
--- why the reply that a request comes to isn't sent, where it comes to one
+-- why the reply that a request comes to isn't sent, if it comes to one
 abbrev pub reply_refusal : (p : ℕ) → (free room : Bool) → Effect → Option FailureCode
 reply_refusal p free room effect.Silent = None
 reply_refusal p free room (effect.Code code) = None

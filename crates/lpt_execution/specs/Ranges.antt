@@ -10,7 +10,7 @@ use Rattle.lpt_execution.specs.Endings.{is_small}
 abbrev pub ReportFits : Report → Type 0
 ReportFits r = length r.body ≤ 65523
 
--- the report of data fits a telemetry packet, where there is one
+-- the report of data fits a telemetry packet, if there is one
 abbrev pub EndingFits : Ending → Type 0
 EndingFits Silent = Unit {0}
 EndingFits (Refused code) = Unit {0}

@@ -30,12 +30,12 @@ verification_kind subtype =
 abbrev pub verification : EncodedReport → Report
 verification e = record { kind = verification_kind e.subtype; body = e.body }
 
--- the report of data, where there is one
+-- the report of data, if there is one
 abbrev pub data_report : Option Report → List Report
 data_report None = []
 data_report (Some report) = report ∷ []
 
--- the reports of a request of this number and these flags: where it is carried out, the report of
+-- the reports of a request of this number and these flags: if it is carried out, the report of
 -- data stands between those of acceptance and start and that of completion
 abbrev pub reports_of : (request flags : ℕ) → Ending → List Report
 reports_of request flags Silent = []

@@ -41,7 +41,7 @@ pub fn reply_fault(p: u32, length: usize, free: bool, room: bool) -> Option<Fail
     }
 }
 
-// Why the reply to a message isn't sent, where it has one.
+// Why the reply to a message isn't sent, if it has one.
 fn reply_refusal(p: u32, free: bool, room: bool, reading: &Reading) -> Option<FailureCode>
     ensures held { (ms : Contents) → reading.now.sizes ≡ sizes_of ms
         → result ≡ reply_refusal p free room (answer (source_meaning reading.now) ms) }
@@ -70,7 +70,7 @@ pub fn ending_of(
         e ≡ ending p free room (answer (source_meaning reading.now) memories.now)) }
     ensures fits { IfOk result EndingFits }
 
-    // Memory runs out only where a reply is made.
+    // Memory runs out only if a reply is made.
     ensures memory { OnErr result
         (has_data (ending p free room (answer (source_meaning reading.now) memories.now)) ≡ true) }
 {
@@ -80,7 +80,7 @@ pub fn ending_of(
     Ok(effect_ending(memories.answer(reading)?))
 }
 
-/// The same of memories that are elsewhere, by the octets that the request reads of them, one area
+/// The same for memories that are elsewhere, by the octets that the request reads of them, one area
 /// behind the other.
 ///
 /// The only error is out of memory, for a reply that is sent.
@@ -105,7 +105,7 @@ pub fn ending_given(
     Ok(effect_ending(reading.answer_of(alloc, octets)?))
 }
 
-// How a request ends that comes to this, where its reply is sent.
+// How a request ends that comes to this, if its reply is sent.
 fn effect_ending(effect: Effect) -> Ending
     ensures ending { (p : ℕ) (free room : Bool) → None ≡ reply_refusal p free room effect
         → result ≡ ending p free room effect }

@@ -32,10 +32,10 @@ pub fn reports(alloc: Global, reading: &Reading, ending: Ending) -> Result<Vec<R
     ensures reports { IfOk result (λ v.
         v.items ≡ message_reports reading.now.apid reading.now.message ending) }
 
-    // The body of each fits a packet, where that of the data report does.
+    // The body of each fits a packet, if that of the data report does.
     ensures fits { EndingFits ending → IfOk result (λ v. All ReportFits v.items) }
 
-    // Memory runs out only where there is a report.
+    // Memory runs out only if there is a report.
     ensures memory { OnErr result
         (message_reports reading.now.apid reading.now.message ending ≢ []) }
 {
@@ -50,7 +50,7 @@ pub fn reports(alloc: Global, reading: &Reading, ending: Ending) -> Result<Vec<R
     }
 }
 
-// The reports of a request around its report of data, where it has one.
+// The reports of a request around its report of data, if it has one.
 fn reports_around(
     alloc: Global,
     request: RequestId,

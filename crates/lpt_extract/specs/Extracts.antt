@@ -104,13 +104,13 @@ IsTooLarge (Some p) areas n = (n ≡ extent areas - p.from) × (image_limit < n)
 abbrev pub is_unbroken : List Gap → (passed : ℕ) → Bool
 is_unbroken gaps passed = (length gaps == 0) && (passed == 0)
 
--- whether that does: an image may be wanted only where it is unbroken
+-- whether that does: an image may be wanted only if it is unbroken
 abbrev pub suits : Option ImagePlace → (unbroken : Bool) → Bool
 suits None u = true
 suits (Some p) u = not p.whole || u
 
--- how an extraction ends: what is wanted of areas was written; or nothing was, where none of them
--- gives an octet that is wanted, where the image is too large, or where it was to be unbroken and
+-- how an extraction ends: what is wanted of areas was written; or nothing was, if none of them
+-- gives an octet that is wanted, if the image is too large, or if it was to be unbroken and
 -- isn't
 abbrev pub Ends : Option ImagePlace → List Area → (unbroken : Bool) → ExtractEnd
     → (old new : Option (List ℕ)) → Type 0
@@ -128,7 +128,7 @@ abbrev pub AreMissing : Option ImagePlace → List Area → List Gap → Type 0
 AreMissing None areas gaps = gaps ≡ []
 AreMissing (Some p) areas gaps = AreGaps (is_given areas) p.from (extent areas) gaps
 
--- how a stream of these packets is cut: by checksums, where they have one
+-- how a stream of these packets is cut: by checksums, if they have one
 abbrev pub cut_of : Wanted → Cut
 cut_of w = cut_for w.layout.has_checksum
 
@@ -163,8 +163,8 @@ is_clean x =
 
 -- ---- faults
 
--- what was written where memory ran out or a read failed is a front part of what is written as
--- areas come; where a write failed, of what is to be written
+-- what was written if memory ran out or a read failed is a front part of what is written as
+-- areas come; if a write failed, of what is to be written
 abbrev pub LeavesFront : StreamFault → Option ImagePlace → List Area → (old new : Option (List ℕ))
     → Type 0
 LeavesFront faults.Write at areas old new = AppendsPart old new (areas_written at areas)

@@ -23,7 +23,7 @@ use Rattle.lpt_extract.specs.Notices.{notice, Hears}
 use Rattle.lpt_extract.specs.ReportsInside.{load_area}
 use Rattle.lpt_extract.specs.Tallies.{IsTally}
 
--- where the area ends that ends last of these, and their image, where one is wanted
+-- where the area ends that ends last of these, and their image, if one is wanted
 abbrev pub HasImage : Option ImagePlace → List Area → Image → Type 0
 HasImage None areas i = (end_of_image i ≡ extent areas) × (gaps_of i.cover ≡ [])
 HasImage (Some p) areas i = Imaged p areas i

@@ -14,12 +14,12 @@ octets_of_image i = i.octets.items
 abbrev pub end_of_image : Image → ℕ
 end_of_image i = end_of_cover i.cover
 
--- so many octets, where they aren't too many
+-- so many octets, if they aren't too many
 abbrev pub IsSize : ℕ → Option ℕ → Type 0
 IsSize n (Some size) = (size ≡ n) × (n ≤ image_limit)
 IsSize n None = image_limit < n
 
--- it has the gaps of these areas, and the image of them, where that isn't too large
+-- it has the gaps of these areas, and the image of them, if that isn't too large
 pub record Imaged (p : ImagePlace) (areas : List Area) (i : Image) : Type 0 where
   pub covers : Covers p.from areas i.cover
   pub octets_are : extent areas - p.from ≤ image_limit → octets_of_image i ≡ image p.from p.fill areas

@@ -1,4 +1,4 @@
--- What is extracted of a stream where dump reports may come in parts.
+-- What is extracted of a stream if dump reports may come in parts.
 use Rattle.std.specs.Prelude.{ℕ, ◌+◌, List, [], ◌∷◌, ◌++◌, length, Option}
 use Rattle.std.specs.List.{flat_map}
 use Rattle.std.specs.Io.KnownBytes.{Consumes, IsAtEnd}

@@ -13,7 +13,7 @@ use Rattle.lpt_extract.specs.ExtractsInside.{HeldAreas}
 use Rattle.lpt_extract.specs.Joined.{Reads, joined_in, reads}
 use Rattle.lpt_extract.specs.Notices.{Hears}
 
--- what is read in place of a packet, where that isn't it itself
+-- what is read in place of a packet, if that isn't it itself
 abbrev pub IsRead : List (List ℕ) → InPlace → Type 0
 IsRead ms Itself = ⊥
 IsRead ms Nothing = ms ≡ []

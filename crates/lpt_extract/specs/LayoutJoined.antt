@@ -1,4 +1,4 @@
--- What is read in place of the packets of a layout where dump reports may come in parts.
+-- What is read in place of the packets of a layout if dump reports may come in parts.
 use Rattle.std.specs.Prelude.{ℕ, false, List, [], ◌∷◌, Result, Ok, Err}
 use Rattle.std.specs.List.{flat_map}
 use Rattle.lpt_carried.specs.Carried.{Named, part_carried}
@@ -12,7 +12,7 @@ use Rattle.lpt_extract.specs.Joined.{Reads}
 abbrev pub messages_in : List Event → List (List ℕ)
 messages_in es = flat_map (λ e. messages_of e.1) es
 
--- what is read in place of a packet behind others: the packet itself, or where it carries a part,
+-- what is read in place of a packet behind others: the packet itself, or if it carries a part,
 -- the message that becomes whole with it
 abbrev pub reads_by :
     Reading → (before : List (List ℕ)) → List ℕ → Result Named Skip → List (List ℕ)

@@ -3,7 +3,7 @@
 use std::alloc::{AllocError, Global};
 use std::collections::BTreeMap;
 
-/// If the area ends that ends last, and the gaps in front of that: of each, its first address
+/// Where the area ends that ends last, and the gaps in front of that: of each, its first address
 /// and its last.
 ///
 /// There are no more gaps than areas. An area costs a few searches in the map, and one for each gap
@@ -22,7 +22,7 @@ impl Cover {
     ghost use Rattle.lpt_extract.specs.CoversInside.{cut, end_of_cover, gaps_of, is_apart, Ascend, Covers};
     ghost use Rattle.lpt_extract.specs.Gaps.{gaps_in};
 
-    // Of no areas.
+    // The cover of no areas.
     pub(crate) fn new(alloc: Global) -> Cover
         ensures end { end_of_cover result ≡ 0 }
         ensures gaps { gaps_of result ≡ [] }

@@ -36,7 +36,7 @@ pub fn end_extract<K: Sink>(
     }
 }
 
-// Writes the image, where one is wanted.
+// Writes the image, if one is wanted.
 fn write_image<K: Sink>(
     wanted: &Wanted,
     holding: &Holding,

@@ -22,7 +22,7 @@ use std::alloc::Global;
 /// the later one wins. The listener is told of each area, of each dump report that isn't taken, and
 /// of what is no packet. Before each read, and at the end, `out` passes on what was written.
 ///
-/// If packets have a checksum, the next one is found behind octets that are none; else the
+/// If packets have a checksum, the next one is found behind octets that are none; otherwise the
 /// stream is cut by lengths alone.
 ///
 /// Errors: `Read` if a read failed, or if 2^64 - 1 pieces came; `Write` if a write failed;
@@ -46,7 +46,7 @@ pub fn extract_stream<S: Source, K: Sink, L: Listener>(
         (S.remaining source.old) (S.remaining source.new)
         (K.contents out.old) (K.contents out.new)) }
 
-    // Where a read fails, just what the packets give was told and written that what was read before
+    // If a read fails, just what the packets give was told and written that what was read before
     // it shows.
     ensures settled { result ≡ Err StreamFault.Read → TakenAll (cut_of wanted.now)
         (S.remaining source.old) (S.remaining source.new) (λ pieces.

@@ -21,7 +21,7 @@ impl Holding {
     ghost use Rattle.lpt_extract.specs.Gaps.{gaps_in};
     ghost use Rattle.lpt_extract.specs.Notices.{Hears};
 
-    /// Of nothing.
+    /// What is kept before anything was read.
     pub fn new(alloc: Global) -> Holding
         ensures { (at : Option ImagePlace) → HeldAreas at [] [] result }
     {

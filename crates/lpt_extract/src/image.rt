@@ -25,7 +25,7 @@ impl Image {
     ghost use Rattle.lpt_extract.specs.Gaps.{gaps_in};
     ghost use Rattle.lpt_extract.specs.ImagesInside.{end_of_image, octets_of_image, Imaged, IsSize};
 
-    // Of no areas.
+    // The image of no areas.
     pub(crate) fn new(alloc: Global) -> Image
         ensures octets { octets_of_image result ≡ [] }
         ensures end { end_of_image result ≡ 0 }
@@ -75,7 +75,7 @@ impl Image {
         self.cover.reach(u64::from(address) + len as u64);
     }
 
-    // How many octets it has from an address on, where they aren't too many.
+    // How many octets it has from an address on, if they aren't too many.
     pub(crate) fn size(&self, from: u32) -> Option<usize>
         ensures { IsSize (end_of_image self.now - from) result }
     {
@@ -110,7 +110,7 @@ impl Image {
         Ok(())
     }
 
-    // Makes it so long, where it is shorter. The only error is out of memory.
+    // Makes it so long, if it is shorter. The only error is out of memory.
     fn grow(&mut self, size: usize, fill: u8) -> Result<(), AllocError>
         ensures octets { OnOk result (octets_of_image self.new ≡ octets_of_image self.old
             ++ replicate (size - length (octets_of_image self.old)) fill) }

@@ -8,7 +8,7 @@ use std::alloc::Global;
 /// What is read in place of a piece.
 #[derive(Drop)]
 pub(crate) enum InPlace {
-    /// It itself.
+    /// The piece itself.
     Itself,
     /// The message that became whole with its part.
     Message(Octets),

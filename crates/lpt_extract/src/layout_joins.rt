@@ -59,7 +59,7 @@ pub fn extract_joined_as<S: Source, K: Sink, L: Listener, T: TakerAs>(
         (layout_reads reading.now) e (S.remaining source.old) (S.remaining source.new)
         (K.contents out.old) (K.contents out.new)) }
 
-    // Where a read fails, just what the packets give was told and written that what was read before
+    // If a read fails, just what the packets give was told and written that what was read before
     // it shows.
     ensures settled { result ≡ Err StreamFault.Read → TakenAll (cut reading.now)
         (S.remaining source.old) (S.remaining source.new) (λ pieces.
@@ -175,7 +175,7 @@ fn gather_packet<T: TakerAs>(
     Ok((LayoutJoins { reading, helds }, read))
 }
 
-// Tells what became of the parts of a name, where something did, and gives the message that became
+// Tells what became of the parts of a name, if something did, and gives the message that became
 // whole.
 fn told_to<T: TakerAs>(taker: &mut T, event: Option<(Name, NewsAs)>) -> Result<InPlace, StreamFault>
     ensures told { OnOk result (teller.Hears (T.heard taker.old) (T.heard taker.new)

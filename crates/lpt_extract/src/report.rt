@@ -48,8 +48,8 @@ pub(crate) enum Report<'a> {
     Areas(u8, Vec<SeenArea<'a>>),
 }
 
-// What that says which was found to whom wants dump reports of this APID. The only error is out of
-// memory.
+// What a dump report or a part that was found says to someone who wants dump reports of this APID.
+// The only error is out of memory.
 pub(crate) fn read_report<'a>(
     alloc: Global,
     apid: u16,

@@ -30,7 +30,7 @@ const ADDRESSES: u64 = 4_294_967_296;
 
 // Takes what a piece of a stream gives that is cut so: a packet, or what is none and gives nothing.
 //
-// Errors: `Write` where a write failed; `Memory`.
+// Errors: `Write` if a write failed; `Memory`.
 pub(crate) fn take_piece<K: Sink, L: Listener>(
     alloc: Global,
     wanted: &Wanted,
@@ -112,7 +112,7 @@ pub(crate) fn take_packet<K: Sink, L: Listener>(
     take_dump(alloc, wanted, place, dump, holding, out, listener)
 }
 
-// Takes what that gives which was found in the packet at this place of a stream, or nothing, where
+// Takes what that gives which was found in the packet at this place of a stream, or nothing, if
 // nothing was: the areas that are wanted of a dump report are written or put into the image, and
 // the listener is told.
 fn take_dump<K: Sink, L: Listener>(
@@ -201,7 +201,7 @@ fn take_areas<K: Sink, L: Listener>(
     Ok(())
 }
 
-// Takes an area of a memory, where it ends within the addresses and its checksum is right.
+// Takes an area of a memory, if it ends within the addresses and its checksum is right.
 fn take_area<K: Sink, L: Listener>(
     wanted: &Wanted,
     place: u64,

@@ -35,7 +35,7 @@ impl Tally {
     ghost use Rattle.lpt_extract.specs.declared.notice.Notice.{Notice};
     ghost use Rattle.lpt_extract.specs.Tallies.{IsTally};
 
-    // Of nothing.
+    // The tally of nothing.
     pub(crate) fn new() -> Tally
         ensures { IsTally [] result }
     {
@@ -71,7 +71,7 @@ impl Others {
     ghost use Rattle.std.specs.Prelude.{◌≡◌, ℕ, ◌++◌, ◌∷◌, List, []};
     ghost use Rattle.lpt_extract.specs.Tallies.{AreOthers};
 
-    // None.
+    // None of them.
     fn new() -> Others
         ensures { AreOthers [] result }
     {

@@ -32,7 +32,7 @@ impl Wanted {
     ghost use Rattle.std.specs.Prelude.{◌≡◌};
     ghost use Rattle.lpt_extract.specs.Extracts.{cut_of, is_of, start, suits};
 
-    // How a stream of these packets is cut: by checksums, where they have one.
+    // How a stream of these packets is cut: by checksums, if they have one.
     pub(crate) fn cut(&self) -> Cut
         ensures { result ≡ cut_of self.now }
     {
@@ -63,7 +63,7 @@ impl Wanted {
         }
     }
 
-    // Whether what is wanted may be written, where that is unbroken or not.
+    // Whether what is wanted may be written, by whether that is unbroken.
     pub(crate) fn suits(&self, is_unbroken: bool) -> bool
         ensures { result ≡ suits self.now.at is_unbroken }
     {

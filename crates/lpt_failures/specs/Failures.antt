@@ -34,7 +34,7 @@ failure_of subtype id body = record {
 abbrev pub as_success : Report → RequestReport
 as_success r = record { request = r.request; failure = None }
 
--- The report that a body is, of this message subtype, where it is read: one of failure begins with
+-- The report that a body is, of this message subtype, if it is read: one of failure begins with
 -- the request ID, and one of success is of this project's form.
 unfoldable pub any_report_in : (subtype : ℕ) → List ℕ → Option RequestReport
 any_report_in subtype body =

@@ -75,9 +75,9 @@ abbrev pub is_unheard : Ends → Direction → Name → Bool
 is_unheard e d name =
     not (is_some (maps.get (node_at e (receiver_side d)).receiving.entries name))
 
--- The move by which an end answers what it hears, where it makes one. A packet is handed to it; a
+-- The move by which an end answers what it hears, if it makes one. A packet is handed to it; a
 -- part of its own turn, too. A name with which its sender is finished in the receiver's turn is
--- freed, where no reception of it is open. A name that its receiver has freed in the sender's turn
+-- freed, if no reception of it is open. A name that its receiver has freed in the sender's turn
 -- is freed.
 abbrev pub answer : Ends → List Move → Line → Option Move
 answer e xs (Part d name turn b) =

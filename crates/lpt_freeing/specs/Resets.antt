@@ -49,7 +49,7 @@ abbrev pub with_deed : Option Move → List Deed → List Deed
 with_deed None ds = ds
 with_deed (Some x) ds = Make x ∷ ds
 
--- what an end does, of machines that have this: a reset deletes it where it wasn't kept, but for
+-- what an end does, of machines that have this: a reset deletes it if it wasn't kept, but for
 -- parts that were sent
 abbrev pub done_by : Config → (start : Pair) → Lived → Story → Act → Story
 done_by c start l s (Makes x) = record s { deeds = Make (Do x) ∷ s.deeds }
@@ -111,7 +111,7 @@ HasItsJobs c start l Ground = ⊤
 HasItsJobs c start l Craft =
     l.kept.pair.ends.tickets ≡ (after_all c start l.but_craft).ends.tickets
 
--- What a restart forgets an end could do as it was kept, too. Its state can be kept where it can be
+-- What a restart forgets an end could do as it was kept, too. Its state can be kept if it can be
 -- written. A machine can be reset at any time, and its end read back in a configuration that
 -- differs in limits and first clock alone.
 abbrev pub CanGoOn : Config → Kept → Story → Doing → Type 0

@@ -12,11 +12,11 @@ pub fn lines_free_in_order()
     ensures { LinesFreeInOrder }
 {}
 
-/// So it is if either machine is reset at any time, again and again, and reads back its state with
-/// the turns of its names. For that an end says what is so, and was so when its state was last
-/// kept, and sends parts that it could have sent then, too. What is left of the moves, but for
-/// those that resets deleted, frees names in order; so the ends keep the promise, and withhold
-/// nothing that came whole.
+/// Such ends also free names in order if either machine is reset at any time, again and again, and
+/// reads back its state with the turns of its names. For that an end says what is so, and was so
+/// when its state was last kept, and sends parts that it could have sent then, too. What is left of
+/// the moves, but for those that resets deleted, frees names in order; so the ends keep the
+/// promise, and withhold nothing that came whole.
 pub fn lines_free_through_resets()
     ensures { LinesFreeThroughResets }
 {}

@@ -33,7 +33,7 @@ effect_of (Dropped parts last) = effect.Against
 effect_of (Unfit e) = effect.Unfit
 effect_of (Overtaken parts last m) = effect.Overtakes
 
--- the same, where something is
+-- the same, if something is
 abbrev pub effect_in : List Event → Option Effect
 effect_in [] = None
 effect_in (e ∷ es) = Some (effect_of e.1)
@@ -54,7 +54,7 @@ loses (Some effect.Against) = true
 loses (Some effect.Unfit) = true
 loses (Some effect.Overtakes) = true
 
--- one more, as it is counted, where this is so
+-- one more, as it is counted, if this is so
 abbrev pub more_if : Bool → ℕ → ℕ
 more_if so n = if so then up_to_limit (n + 1) else n
 
@@ -76,7 +76,7 @@ key_of_effect effect.Against = key.Against
 key_of_effect effect.Unfit = key.Unfit
 key_of_effect effect.Overtakes = key.Whole
 
--- where nothing is told: one that is left already, or is the last message's; one that leaves
+-- if nothing is told: one that is left already, or is the last message's; one that leaves
 -- numbers out; or another
 abbrev pub quiet_key : (was now : WaitingAs) → (number : ℕ) → Key
 quiet_key was now n =

@@ -26,7 +26,7 @@ pub record Drawn : Type 0 where
   pub number : ℕ
   pub of : Option (Direction × Name)
 
--- the part at a place that a packet carries in a direction, where it does
+-- the part at a place that a packet carries in a direction, if it does
 abbrev pub part_at : (place : ℕ) → Direction → Result Named Skip → List Drawn
 part_at place d (Err e) = []
 part_at place d (Ok c) =

@@ -29,7 +29,7 @@ abbrev pub reading : View → Direction → Reading
 reading v Up = v.up
 reading v Down = v.down
 
--- how the stream is cut: by checksums, where all of its packets have one
+-- how the stream is cut: by checksums, if all of its packets have one
 abbrev pub cut : View → Cut
 cut v = if v.up.layout.has_checksum && v.down.layout.has_checksum then Sealed else Framed
 
@@ -44,7 +44,7 @@ fate_by d r before b c = record {
   left = waiting_of r false (before ++ b ∷ []) (name_of c);
 }
 
--- the same where it carries this, or none
+-- the same if it carries this, or none
 abbrev pub fate_of : Direction → Reading → (before : List (List ℕ)) → List ℕ → Result Named Skip
     → Option Fate
 fate_of d r before b (Err e) = None
@@ -69,7 +69,7 @@ row_advanced f r = (part_counted f r, key_by f r.left)
 abbrev pub is_of : Direction → Name → Row → Bool
 is_of d n r = same_direction r.direction d && same_name r.name n
 
--- the place of its row, and behind all rows where it has none
+-- the place of its row, and behind all rows if it has none
 abbrev pub row_of : Direction → Name → List Row → ℕ
 row_of d n rows = position_or_len (is_of d n) rows
 
@@ -146,7 +146,7 @@ pub record Seen : Type 0 where
 abbrev pub nothing : Seen
 nothing = record { rows = []; marks = []; in_step = true; octets = 0 }
 
--- with a part, where there is one
+-- with a part, if there is one
 abbrev pub part_added : Option Fate → Seen → Seen
 part_added None s = s
 part_added (Some f) s = record s {

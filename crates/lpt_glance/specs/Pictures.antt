@@ -30,14 +30,14 @@ head_told apid s = Says
     (Number (count_by is_packet s.marks) ∷ Number s.octets ∷ Number apid ∷ Number (length s.rows)
     ∷ Number (count_by is_part s.marks) ∷ [])
 
--- what a mark of a part stands for and how many there are, where there are some
+-- what a mark of a part stands for and how many there are, if there are some
 unfoldable pub entry_told : List Mark → Key → List Told
 entry_told marks key =
     if nat_lt 0 (count_of key marks) then Shows key ∷ Says (Number (count_of key marks) ∷ []) ∷ []
     else []
 
 -- the user that names of a direction are written without: the source that is configured, or none
--- where the layout has no field for it
+-- if the layout has no field for it
 abbrev pub user_in : (source : ℕ) → Width → ℕ
 user_in source Absent = 0
 user_in source _ = source
@@ -46,11 +46,11 @@ abbrev pub name_told : (user : ℕ) → Name → List Word
 name_told user n =
     if n.user == user then Number n.id ∷ [] else Number n.user ∷ Number n.id ∷ []
 
--- how often parts were given up, where they were
+-- how often parts were given up, if they were
 abbrev pub given_up_told : (given_up : ℕ) → List Word
 given_up_told n = if n == 0 then [] else Number n ∷ []
 
--- how many parts are left and up to which number, where some are
+-- how many parts are left and up to which number, if some are
 abbrev pub left_told : WaitingAs → List Word
 left_told w = if w.count == 0 then [] else Number w.count ∷ Number w.highest ∷ []
 

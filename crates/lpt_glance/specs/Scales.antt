@@ -6,7 +6,7 @@ use Rattle.lpt_glance.specs.declared.mark.Key.TheVariants.{NoPart, Damaged, Stra
 use Rattle.lpt_glance.specs.declared.mark.Mark.{Mark}
 use Rattle.lpt_glance.specs.declared.row.Row.{Row}
 
--- how far rows stand from each other, where there are so many
+-- how far rows stand from each other, if there are so many
 abbrev pub pitch_of : (rows : ℕ) → ℕ
 pitch_of rows = if nat_le rows 24 then 40 else 24
 

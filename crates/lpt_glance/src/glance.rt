@@ -38,7 +38,8 @@ pub struct Glance {
 }
 
 /// Reads a stream of packets to its end, and gives what is drawn of it. If all packets have a
-/// checksum, the next one is found behind octets that are none; else lengths alone cut the stream.
+/// checksum, the next one is found behind octets that are none; otherwise lengths alone cut the
+/// stream.
 ///
 /// Errors: `Read` if a read failed, or if 2^64 - 1 pieces came; `Memory`.
 pub fn look<S: Source>(alloc: Global, view: View, source: &mut S) -> Result<Glance, StreamFault>
@@ -64,7 +65,7 @@ pub fn look<S: Source>(alloc: Global, view: View, source: &mut S) -> Result<Glan
     let mut out = Nowhere { failed: false };
     match take_pieces(alloc, 0, source, first, &mut out, &mut ()) {
         Ok(glance) => Ok(glance),
-        // None ever fails so.
+        // No write to it ever fails.
         Err(StreamFault::Write) if out.failed => Err(StreamFault::Memory),
         Err(fault) => Err(fault),
     }
@@ -111,7 +112,7 @@ impl Taker<Nowhere, ()> for Glance {
 }
 
 impl Glance {
-    // With a piece more.
+    // What is drawn with a piece more.
     //
     // Errors: `Memory`.
     fn with_piece(
@@ -140,7 +141,7 @@ impl Glance {
         }
     }
 
-    // With the parts that a packet carries, and whether it carries none.
+    // What is drawn with the parts that a packet carries, and whether it carries none.
     //
     // Errors: `Memory`.
     fn with_packet(self, alloc: Global, octets: &[u8]) -> Result<(Glance, bool), StreamFault>
@@ -181,7 +182,7 @@ impl Glance {
         Ok((glance.add(above)?.add(below)?, is_bare))
     }
 
-    // With a part, if there is one. The only error is out of memory.
+    // What is drawn with a part, if there is one. The only error is out of memory.
     fn add(self, fate: Option<Fate>) -> Result<Glance, AllocError>
         ensures view { IfOk result (λ g. g.view ≡ self.view) }
         ensures up { IfOk result (λ g. g.up ≡ self.up) }
@@ -218,8 +219,8 @@ impl Glance {
         })
     }
 
-    // Behind a piece of so many octets, which carries no part or some. The only error is out of
-    // memory.
+    // What is drawn behind a piece of so many octets, which carries no part or some. The only error
+    // is out of memory.
     fn pass(self, kind: PieceKind, many: u64, is_bare: bool) -> Result<Glance, AllocError>
         ensures view { IfOk result (λ g. g.view ≡ self.view) }
         ensures up { IfOk result (λ g. g.up ≡ self.up) }

@@ -31,7 +31,7 @@ impl Places {
         }
     }
 
-    // The place of a transaction's row, where it has one.
+    // The place of a transaction's row, if it has one.
     pub(crate) fn get(&self, direction: Direction, name: Name) -> Option<usize>
         ensures { result ≡ place_in self.now direction name }
     {
@@ -42,7 +42,7 @@ impl Places {
         places.get(&name).copied()
     }
 
-    // With this place for a transaction's row. The only error is out of memory.
+    // The places, with this one for a transaction's row. The only error is out of memory.
     pub(crate) fn with(
         self,
         direction: Direction,
@@ -68,7 +68,7 @@ impl Places {
     }
 }
 
-// With this place for a name. The only error is out of memory.
+// The places, with this one for a name. The only error is out of memory.
 fn with_place(
     mut places: BTreeMap<Name, usize>,
     name: Name,

@@ -24,7 +24,7 @@ pub(crate) struct Row {
 }
 
 impl Row {
-    // One of which nothing came.
+    // A row of which nothing came.
     pub(crate) fn new(direction: Direction, name: Name) -> Row
         ensures { result ≡ fresh direction name }
     {
@@ -55,7 +55,7 @@ impl Row {
     }
 }
 
-// One more, as it is counted, where this is so.
+// One more, as it is counted, if this is so.
 fn more_if(so: bool, count: u64) -> u64
     ensures { result ≡ more_if so count }
 {

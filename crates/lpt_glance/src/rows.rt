@@ -45,7 +45,7 @@ impl Rows {
         Ok((Rows { list, places }, row, key))
     }
 
-    // With a row for a transaction, where it has none, and the place of its row.
+    // The rows, with one for a transaction if it has none, and the place of its row.
     fn with_row(self, direction: Direction, name: Name) -> Result<(Rows, usize), AllocError>
         ensures rows { IfOk result
             (λ r. r.0.list.items ≡ rows_opened direction name self.list.items) }

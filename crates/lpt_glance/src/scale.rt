@@ -9,7 +9,7 @@ use crate::shape::{Shape, add};
 use crate::{Key, Mark};
 use std::alloc::AllocError;
 
-// How far rows stand from each other, where there are so many.
+// How far rows stand from each other, if there are so many.
 pub(crate) fn pitch_of(rows: usize) -> u32
     ensures value { result ≡ pitch_of rows }
     ensures some { 24 ≤ result }

@@ -43,7 +43,7 @@ packets_of (Came o ∷ rest) = o ∷ packets_of rest
 packets_of (Quiet ∷ rest) = packets_of rest
 packets_of (Over ∷ rest) = packets_of rest
 
--- these were answered, where that is known
+-- these were answered, if that is known
 abbrev pub Hears : (had has : Option (List Answer)) → List Answer → Type 0
 Hears None has answers = ⊤
 Hears (Some old) None answers = ⊥
@@ -74,13 +74,13 @@ abbrev pub octets_of : Option Asked → List ℕ
 octets_of None = []
 octets_of (Some a) = a.octets
 
--- what is written by a step, where nothing has come
+-- what is written by a step, if nothing has come
 abbrev pub written_by : PassState → Step → List ℕ
 written_by s (Put k) = octets_of (slice_get s.asked k)
 written_by s Listen = []
 written_by s (Stop e) = []
 
--- what is written where it is answered so
+-- what is written if it is answered so
 abbrev pub written_at : PassState → Answer → List ℕ
 written_at s Nothing = written_by s (next_step s)
 written_at s (Came o) = []
@@ -111,7 +111,7 @@ pub record Went (terms : Terms) (s t : PassState) (had has : Option (List Answer
 
 -- ---- what has settled its requests
 
--- octets are a report of the pass that says that a request was carried out, and answers it where
+-- octets are a report of the pass that says that a request was carried out, and answers it if
 -- something was asked
 pub record Tells (terms : Terms) (a : Asked) (o : List ℕ) : Type 0 where
   pub report : Telemetry

@@ -63,12 +63,12 @@ is_done a = has_come a.fate
 abbrev pub end_of : List Asked → End
 end_of asked = if list_all is_done asked then ends.Done else ends.Failed
 
--- The next that waits behind the place; where none does, the first, if this round owes one.
+-- The next that waits behind the place; if none does, the first, if this round owes one.
 abbrev pub put_from : PassState → (first : ℕ) → (behind : Option ℕ) → Step
 put_from s first (Some k) = Put (s.at + k)
 put_from s first None = if s.owed == 0 then Listen else Put first
 
--- where this is the first that waits, or none does
+-- if this is the first that waits, or none does
 abbrev pub step_from : PassState → Option ℕ → Step
 step_from s None = Stop (end_of s.asked)
 step_from s (Some first) =

@@ -36,7 +36,7 @@ is_answer Completion subtype b = false
 is_answer (Dumped p) subtype b = subtype == 6 && is_dump p b
 is_answer (Checked p) subtype b = subtype == 10 && is_area p 2 b
 
--- a report of success, of this subtype, is the one that is awaited: of completion, or where that
+-- a report of success, of this subtype, is the one that is awaited: of completion, or if that
 -- counts of start
 abbrev pub is_success : (starts : Bool) → Awaits → (subtype : ℕ) → Bool
 is_success starts Completion subtype = subtype == 7 || (starts && (subtype == 3))

@@ -21,7 +21,7 @@ pub enum Waited {
 
 /// Where a pass hears packets, and where what became of its requests is kept.
 pub trait Ear {
-    // What it answered so far, where that is known.
+    // What it answered so far, if that is known.
     ghost told: { Self → Option (List Answer) };
 
     /// A packet that has come, if one has. It doesn't wait.
@@ -113,7 +113,7 @@ fn put_one<E: Ear, K: Sink>(
     }
 }
 
-// Listens for a packet, for as long as a pass waits. Where none comes a round begins.
+// Listens for a packet, for as long as a pass waits. If none comes a round begins.
 fn listen<E: Ear, K: Sink>(pass: &mut Pass, ear: &mut E, out: &mut K) -> Result<(), StreamFault>
     ensures ok { OnOk result (Stepped pass.old.terms (state_of pass.old) (state_of pass.new)
         (E.told ear.old) (E.told ear.new) (K.contents out.old) (K.contents out.new)) }

@@ -18,7 +18,7 @@ pub(crate) fn first_waiting(asked: &[Asked]) -> Option<usize>
     asked.iter().position(|asked| asked.fate.waits())
 }
 
-// The place of the first that waits, of which none before this place does; how many they are, where
+// The place of the first that waits, of which none before this place does; how many they are, if
 // none waits.
 pub(crate) fn first_from(asked: &[Asked], from: usize) -> usize
     requires within { from ≤ length asked.now }
@@ -32,7 +32,7 @@ pub(crate) fn first_from(asked: &[Asked], from: usize) -> usize
     }
 }
 
-// The first that telemetry settles, where none before this place waits.
+// The first that telemetry settles, if none before this place waits.
 pub(crate) fn first_settled(
     asked: &[Asked],
     from: usize,
@@ -68,7 +68,7 @@ pub(crate) fn are_done(asked: &[Asked]) -> bool
 }
 
 // The request at this place has the fate that octets say from now on, if there is one; gives the
-// place of the first that waits then, where this was the first before.
+// place of the first that waits then, if this was the first before.
 pub(crate) fn settle(
     asked: &mut [Asked],
     first: usize,

@@ -111,9 +111,9 @@ impl Pass {
         self.asked[k].octets.as_slice()
     }
 
-    /// What the pass does next. If no request waits any more it stops; else also if nothing
-    /// more will be heard, or too many waits settled nothing. Else it puts the next that waits in
-    /// this round, or listens if there is none.
+    /// What the pass does next. It stops if no request waits any more, if nothing more will be
+    /// heard, or if too many waits settled nothing. Otherwise it puts the next that waits in this
+    /// round, or listens if there is none.
     #[tactic(auto, unfolding(crate::specs::Passes::next_step))]
     pub fn next(&self) -> Step
         ensures step { result ≡ next_step (state_of self.now) }
@@ -142,7 +142,7 @@ impl Pass {
         }
     }
 
-    // What a pass does next where this is the first that waits.
+    // What a pass does next if this is the first that waits.
     fn put_from(&self, first: usize) -> Step
         requires { first < length self.now.asked.items }
         ensures step { result ≡ put_from (state_of self.now) first
@@ -156,7 +156,7 @@ impl Pass {
         }
     }
 
-    /// The request at this place was put.
+    /// Takes it that the request at this place was put.
     pub fn request_sent(&mut self, k: usize)
         requires { k < length self.old.asked.items }
         ensures state { state_of self.new ≡ put (state_of self.old) k }
@@ -166,7 +166,7 @@ impl Pass {
         self.owed = self.owed.saturating_sub(1);
     }
 
-    /// A packet was heard. The first request that it settles has its fate then.
+    /// Takes a packet that was heard. The first request that it settles has its fate then.
     #[tactic(auto, unfolding(crate::specs::Passes::octets_heard))]
     pub fn hear(&mut self, octets: Octets)
         ensures state { state_of self.new ≡ octets_heard self.old.terms (state_of self.old) octets }
@@ -192,7 +192,7 @@ impl Pass {
         Some((k, said))
     }
 
-    /// Nothing was heard for the wait: a new round begins.
+    /// Takes it that nothing was heard for the wait: a new round begins.
     pub fn quiet(&mut self)
         ensures state { state_of self.new ≡ pass_waited self.old.terms (state_of self.old) }
         ensures terms { self.new.terms ≡ self.old.terms }
@@ -207,7 +207,7 @@ impl Pass {
         self.news = false;
     }
 
-    /// Nothing more will be heard.
+    /// Takes it that nothing more will be heard.
     pub fn close(&mut self)
         ensures state { state_of self.new ≡ pass_closed (state_of self.old) }
         ensures terms { self.new.terms ≡ self.old.terms }

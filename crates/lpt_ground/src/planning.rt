@@ -20,7 +20,7 @@ pub const MOST: usize = 16_384;
 /// settles each.
 ///
 /// A dump or a check of one place awaits its octets or their checksum; all else awaits the report
-/// that its execution was completed. Errors: as there.
+/// that its execution was completed. Errors: as of `write_requests`.
 pub fn plan_requests(
     alloc: Global,
     apid: u16,

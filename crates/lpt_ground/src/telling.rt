@@ -102,7 +102,7 @@ impl Asked {
     }
 }
 
-// A failure with this notice, or else a success that is awaited or isn't.
+// A failure with this notice, or otherwise a success that is awaited or isn't.
 fn said_with(failure: Option<FailureNotice>, awaited: bool) -> Option<Said>
     ensures { result ≡ said_with failure awaited }
 {

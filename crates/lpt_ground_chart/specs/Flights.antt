@@ -13,7 +13,7 @@ code_of Open = 0
 code_of Done = 1
 code_of Failed = 2
 
--- how many requests were sent, where it is said so of each
+-- how many requests were sent, if it is said so of each
 abbrev pub sent_among : List Bool → ℕ
 sent_among sent = count_by (λ b. b) sent
 
@@ -28,7 +28,7 @@ ended_so e rs = count_by (λ r. code_of r.ending == code_of e) rs
 
 -- ---- rows
 
--- how many requests a row is of, where there are so many: one, as long as that makes no more than
+-- how many requests a row is of, if there are so many: one, as long as that makes no more than
 -- 64 rows
 abbrev pub each_of : (many : ℕ) → ℕ
 each_of many = many / 65 + 1

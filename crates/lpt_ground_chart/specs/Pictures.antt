@@ -21,7 +21,7 @@ grid_of f = record {
   rounds = length f.rounds.items;
 }
 
--- how far columns stand from each other, where there are so many rounds
+-- how far columns stand from each other, if there are so many rounds
 abbrev pub pitch_of : (rounds : ℕ) → ℕ
 pitch_of rounds = min (max (640 / max rounds 1) 4) 64
 
@@ -37,7 +37,7 @@ wide_of rounds = max (column_x rounds rounds + 210) 1000
 abbrev pub step_of : (rounds : ℕ) → ℕ
 step_of rounds = 35 / pitch_of rounds + 1
 
--- how far rows stand from each other, where there are so many
+-- how far rows stand from each other, if there are so many
 abbrev pub line_of : (rows : ℕ) → ℕ
 line_of rows = if nat_le rows 24 then 20 else 13
 
@@ -97,7 +97,7 @@ ended_text rs =
     ++ some_text (ended_so Failed rs) (codes "failed"))
     ++ some_text (ended_so Open rs) (codes "open")
 
--- the style of that: its own where some are open
+-- the style of that: its own if some are open
 abbrev pub ended_style : List FlownRequest → List ℕ
 ended_style rs = if ended_so Open rs == 0 then codes "e" else codes "o"
 

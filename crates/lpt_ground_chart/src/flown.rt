@@ -63,7 +63,7 @@ impl Ending {
     }
 }
 
-// How many of these requests were sent, where it is said so of each.
+// How many of these requests were sent, by what is said of each.
 pub(crate) fn sent_among(sent: &[bool]) -> usize
     ensures { result ≡ sent_among sent.now }
 {

@@ -28,8 +28,8 @@ pub fn draw(alloc: Global, flown: &Flown) -> Result<String, AllocError>
     Ok(out)
 }
 
-/// The same of a pass, and below it of the pass that came behind it. The only error is out of
-/// memory.
+/// The picture of a pass, and below it that of the pass that came behind it. The only error is out
+/// of memory.
 pub fn draw_both(alloc: Global, first: &Flown, second: &Flown) -> Result<String, AllocError>
     ensures { IfOk result (λ t. string_bytes t ≡ both_text first.now second.now) }
 {

@@ -28,7 +28,7 @@ pub(crate) fn grid_of(flown: &Flown) -> Grid
     }
 }
 
-// How many requests a row is of, where there are so many.
+// How many requests a row is of, if there are so many.
 fn each_of(many: usize) -> usize
     ensures value { result ≡ each_of many }
     ensures some { 1 ≤ result }
@@ -71,7 +71,7 @@ pub(crate) fn front<T>(many: usize, list: &[T]) -> &[T]
     list.split_at(many.min(list.len())).0
 }
 
-// How far columns stand from each other, where there are so many rounds.
+// How far columns stand from each other, if there are so many rounds.
 fn pitch_of(rounds: usize) -> usize
     ensures value { result ≡ pitch_of rounds }
     ensures some { 4 ≤ result }
@@ -110,7 +110,7 @@ pub(crate) fn step_of(rounds: usize) -> usize
     35 / pitch_of(rounds) + 1
 }
 
-// How far rows stand from each other, where there are so many.
+// How far rows stand from each other, if there are so many.
 fn line_of(rows: usize) -> u128
     ensures value { result ≡ line_of rows }
     ensures small { result ≤ 20 }

@@ -52,7 +52,7 @@ report =
 
 -- ---- the run
 
--- nothing has come where the request is sent, and then the report comes
+-- nothing has come when the request is sent, and then the report comes
 abbrev pub answers : List Answer
 answers = Nothing ∷ Came report ∷ []
 

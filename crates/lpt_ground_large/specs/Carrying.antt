@@ -28,13 +28,13 @@ abbrev pub come_to : Large → Terms → Way → List Answer → Way
 come_to l terms w [] = w
 come_to l terms w (a ∷ rest) = come_to l terms (after_answer l terms w a) rest
 
--- what is written by a step, where nothing has come
+-- what is written by a step, if nothing has come
 abbrev pub written_by : Large → Way → Step → List ℕ
 written_by l w (Put k) = part_packet l w.used w.count k
 written_by l w Listen = []
 written_by l w (Stop e) = []
 
--- what is written where it is answered so
+-- what is written if it is answered so
 abbrev pub written_at : Large → Way → Answer → List ℕ
 written_at l w Nothing = written_by l w (next_way l w)
 written_at l w (Came o) = []

@@ -39,7 +39,7 @@ part_command l count q = record {
   body = body_of q;
 }
 
--- The packet of the part behind so many, under the name behind so many, where the first packet
+-- The packet of the part behind so many, under the name behind so many, if the first packet
 -- under that name has this sequence count.
 abbrev pub part_packet : Large → (used first k : ℕ) → List ℕ
 part_packet l used first k =

@@ -25,7 +25,7 @@ pub fn carry_large<E: Ear, K: Sink>(
     ear: &mut E,
     out: &mut K,
 ) -> Result<End, StreamFault>
-    // It is at its end. Where it is done the request was told done by what was heard.
+    // It is at its end. If it is done the request was told done by what was heard.
     ensures stop { IfOk result (λ e.
         next_way uplink.new.large (way_of uplink.new (state_of pass.new)) ≡ Step.Stop e) }
     ensures done { IfOk result (λ e. e ≡ End.Done
@@ -105,7 +105,7 @@ fn put_part<E: Ear, K: Sink>(
     }
 }
 
-// Listens for a packet, for as long as a pass waits. Where none comes a round begins.
+// Listens for a packet, for as long as a pass waits. If none comes a round begins.
 fn listen<E: Ear, K: Sink>(
     uplink: &mut Uplink,
     pass: &mut Pass,

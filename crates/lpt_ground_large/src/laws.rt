@@ -3,8 +3,8 @@
 ghost use Rattle.lpt_ground_large.specs.Carrying.{DoneIsTold};
 ghost use Rattle.lpt_ground_large.specs.Parts.{PacketsAreTheNodes};
 
-/// If it ends as done, a packet was heard that is a report of this pass and says that the
-/// message's request was carried out, if that waited when it began.
+/// If a large message ends as done, a packet was heard that is a report of this pass and says that
+/// the message's request was carried out, if that waited when it began.
 pub fn done_is_told()
     ensures { DoneIsTold }
 {}

@@ -58,7 +58,7 @@ impl Uplink {
     }
 
     /// What is next, beside the pass of the message's request. If that stops, or no name is left,
-    /// it stops. Else it puts the next part in this round, or listens if there is none.
+    /// it stops. Otherwise it puts the next part in this round, or listens if there is none.
     #[tactic(auto, unfolding(crate::specs::Uplinks::next_way))]
     pub fn next(&self, pass: &Pass) -> Step
         ensures step { result ≡ next_way self.now.large (way_of self.now (state_of pass.now)) }
@@ -95,7 +95,7 @@ impl Uplink {
         self.large.packet(alloc, self.used, self.count, k as u16)
     }
 
-    /// The part behind so many was put.
+    /// Takes it that the part behind so many was put.
     pub fn part_sent(&mut self, k: usize)
         requires { k < parts_of self.old.large }
         ensures way { (s : PassState) → way_of self.new s ≡ with_part_put (way_of self.old s) k }
@@ -104,7 +104,7 @@ impl Uplink {
         self.at = k + 1;
     }
 
-    /// A packet was heard, beside the pass of the message's request, which hears it too.
+    /// Takes a packet that was heard, beside the pass of the message's request, which hears it too.
     pub fn hear(&mut self, pass: &mut Pass, octets: Octets)
         ensures way { way_of self.new (state_of pass.new)
             ≡ with_packet self.old.large pass.old.terms
@@ -149,8 +149,8 @@ impl Uplink {
         self.rounds = 0;
     }
 
-    /// Nothing was heard for the wait: a new round begins, for the pass of the message's request
-    /// too.
+    /// Takes it that nothing was heard for the wait: a new round begins, for the pass of the
+    /// message's request too.
     pub fn quiet(&mut self, pass: &mut Pass)
         ensures way { way_of self.new (state_of pass.new) ≡ with_round self.old.large pass.old.terms
             (way_of self.old (state_of pass.old)) }
@@ -166,7 +166,7 @@ impl Uplink {
         }
     }
 
-    /// Nothing more will be heard.
+    /// Takes it that nothing more will be heard.
     pub fn close(&mut self, pass: &mut Pass)
         ensures way { way_of self.new (state_of pass.new)
             ≡ at_end (way_of self.old (state_of pass.old)) }

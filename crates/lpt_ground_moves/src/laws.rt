@@ -8,14 +8,15 @@ pub fn done_was_heard()
     ensures { DoneWasHeard }
 {}
 
-/// So if its loads are a pass of an image, the spacecraft's memory has the image there, whatever
-/// else the two ends did.
+/// If a pass of loads is done, each packet that it heard was put out by the spacecraft, and its
+/// loads are a pass of an image, the spacecraft's memory has the image there, whatever else the two
+/// ends did.
 pub fn done_leaves_the_image()
     ensures { DoneLeavesTheImage }
 {}
 
-/// The same of a load that goes up in parts, all or nothing, under one name or several: if it is
-/// done, the memory has the image there.
+/// The same holds of a load that goes up in parts, all or nothing, under one name or several: if it
+/// is done, the memory has the image there.
 pub fn large_leaves_the_image()
     ensures { LargeLeavesTheImage }
 {}

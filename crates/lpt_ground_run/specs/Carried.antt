@@ -11,7 +11,7 @@ use Rattle.lpt_ground_large.specs.declared.large.Large.{Large}
 use Rattle.lpt_ground_large.specs.Carrying as large
 use Rattle.lpt_ground_large.specs.Uplinks.{Way, next_way}
 
--- Whatever the ear answered: the pass came to this end by it, and wrote what follows from it. Where
+-- Whatever the ear answered: the pass came to this end by it, and wrote what follows from it. If
 -- it is done, of each request that waited one of the packets among the answers says so.
 pub record CameTo (terms : Terms) (s t : PassState) (old new : Option (List ℕ))
     (end : End) : Type 0 where

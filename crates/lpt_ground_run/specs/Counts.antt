@@ -13,7 +13,7 @@ abbrev pub none_yet : List ℕ → Bool
 none_yet [] = false
 none_yet (n ∷ ups) = n == 0
 
--- Where so many packets went up in each round, the last of them in front, and so many came down:
+-- If so many packets went up in each round, the last of them in front, and so many came down:
 -- all that went up, the rounds in which some did, and those that came down.
 pub record AreCounted (c : RunCounts) (ups : List ℕ) (came : ℕ) : Type 0 where
   pub up : c.up ≡ at_most (sum ups)

@@ -9,7 +9,7 @@ use Rattle.lpt_ground_run.specs.declared.halt.Halt.{Halt}
 use Rattle.lpt_ground_run.specs.declared.halt.Halt.TheVariants.{End, Closed, Stray, Within}
 use Rattle.lpt_ground_run.specs.Handing.{Gains, packets_in}
 
--- how a stream is cut: by lengths alone, and where it resumes, by checksums behind octets with
+-- how a stream is cut: by lengths alone, and if it resumes, by checksums behind octets with
 -- which no packet begins
 abbrev pub cut_of : (resumes : Bool) → Cut
 cut_of true = Resumed

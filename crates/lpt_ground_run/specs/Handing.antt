@@ -6,7 +6,7 @@ use Rattle.lpt_stream.specs.declared.piece_kind.PieceKind.{PieceKind}
 use Rattle.lpt_stream.specs.declared.piece_kind.PieceKind.TheVariants.{Whole, Damaged, Stray}
 use Rattle.lpt_stream.specs.Pieces.{Piece}
 
--- a fault where nothing is written
+-- a fault if nothing is written
 abbrev pub not_written : StreamFault → StreamFault
 not_written Read = Read
 not_written Write = Memory

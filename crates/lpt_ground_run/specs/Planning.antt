@@ -17,11 +17,11 @@ fault_of cuts.Empty = Empty
 fault_of cuts.PastEnd = PastEnd
 fault_of cuts.Memory = Memory
 
--- how many octets a dump is of at most where a part has so many, 6 of which its report takes up
+-- how many octets a dump is of at most if a part has so many, 6 of which its report takes up
 abbrev pub dump_each : (part_size : ℕ) → Result ℕ PlanFault
 dump_each p = if nat_le p 6 then Err Narrow else Ok (p - 6)
 
--- how many octets a check is of at most where a part has so many: its report is as long as the load
+-- how many octets a check is of at most if a part has so many: its report is as long as the load
 -- of 6 octets
 abbrev pub check_each : (part_size : ℕ) → Result ℕ PlanFault
 check_each p = if nat_lt p 6 then Err NarrowCheck else Ok 4000

@@ -17,7 +17,7 @@ outcome_of (fates.Failed notice) = Failed notice
 abbrev pub became : Asked → Outcome
 became a = outcome_of a.fate
 
--- what became of each, where that is said in runs
+-- what became of each, if that is said in runs
 abbrev pub spread : List GroundRun → List Outcome
 spread [] = []
 spread (r ∷ rs) = replicate r.count r.outcome ++ spread rs

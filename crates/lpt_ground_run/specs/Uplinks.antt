@@ -20,7 +20,7 @@ pub record GoesInParts (h : Heads) (part_size : ℕ) (names : Names) (a : Asked)
   pub size : u.large.part_size ≡ part_size
   pub begins : (s : PassState) → way_of u s ≡ way_at_first u.large s
 
--- how a request goes up: as it is where it is no longer than a part
+-- how a request goes up: as it is if it is no longer than a part
 abbrev pub IsUplink : Heads → (part_size : ℕ) → Names → Asked → Option Uplink → Type 0
 IsUplink h p names a None = length a.octets ≤ p
 IsUplink h p names a (Some u) = GoesInParts h p names a u

@@ -24,7 +24,7 @@ pub fn carry_pass<R: Wait + Clock + Drop, N: Notes + Drop, K: Sink>(
     hearing: &mut Hearing<R, N>,
     out: &mut K,
 ) -> Result<End, StreamFault>
-    // Where it is done, each request that waited was told so by a packet that came.
+    // If it is done, each request that waited was told so by a packet that came.
     ensures carried { IfOk result (CameTo pass.old.terms (state_of pass.old) (state_of pass.new)
         (K.contents out.old) (K.contents out.new)) }
     ensures terms { pass.new.terms ≡ pass.old.terms }
@@ -34,10 +34,10 @@ pub fn carry_pass<R: Wait + Clock + Drop, N: Notes + Drop, K: Sink>(
 }
 
 /// Carries a large message to its end, beside the pass of its request, by what is heard of another
-/// thread. The notes are told as there.
+/// thread. The notes are told as by `carry_pass`.
 ///
-/// Errors: as there; `Memory` also if memory ran out for a packet. What became of the request
-/// stays.
+/// Errors: as of `carry_pass`; `Memory` also if memory ran out for a packet. What became of the
+/// request stays.
 pub fn carry_uplink<R: Wait + Clock + Drop, N: Notes + Drop, K: Sink>(
     alloc: Global,
     uplink: &mut Uplink,
@@ -45,7 +45,7 @@ pub fn carry_uplink<R: Wait + Clock + Drop, N: Notes + Drop, K: Sink>(
     hearing: &mut Hearing<R, N>,
     out: &mut K,
 ) -> Result<End, StreamFault>
-    // Where it is done, the request was told so by a packet that came.
+    // If it is done, the request was told so by a packet that came.
     ensures carried { IfOk result (CameUp uplink.old.large pass.old.terms
         (way_of uplink.old (state_of pass.old)) (way_of uplink.new (state_of pass.new))
         (K.contents out.old) (K.contents out.new)) }

@@ -19,7 +19,7 @@ pub struct RunCounts {
 }
 
 impl RunCounts {
-    /// Nothing was counted yet.
+    /// Counts of a pass of which nothing was counted yet.
     pub fn new() -> RunCounts
         ensures { AreCounted result [] 0 }
     {
@@ -31,7 +31,7 @@ impl RunCounts {
         }
     }
 
-    /// A round begins. It counts once a packet goes up in it.
+    /// Notes that a round begins. It counts once a packet goes up in it.
     pub fn begin_round(&mut self)
         ensures { (ups : List ℕ) (down : ℕ) → AreCounted self.old ups down
             → AreCounted self.new (0 ∷ ups) down }
@@ -39,7 +39,7 @@ impl RunCounts {
         self.waits = true;
     }
 
-    /// A packet goes up in the round that was begun last.
+    /// Counts a packet that goes up in the round that was begun last.
     pub fn count_up(&mut self)
         ensures { (n down : ℕ) (ups : List ℕ) → AreCounted self.old (n ∷ ups) down
             → AreCounted self.new ((n + 1) ∷ ups) down }
@@ -51,7 +51,7 @@ impl RunCounts {
         self.up = self.up.saturating_add(1);
     }
 
-    /// A packet came down.
+    /// Counts a packet that came down.
     pub fn count_down(&mut self)
         ensures { (ups : List ℕ) (down : ℕ) → AreCounted self.old ups down
             → AreCounted self.new ups (down + 1) }

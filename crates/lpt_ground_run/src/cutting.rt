@@ -13,9 +13,9 @@ use lpt_stream::{Cut, PieceKind, Taker, take_pieces};
 use lpt_text::{FromStd, Sink, Source, StreamFault};
 use std::alloc::Global;
 
-/// If the packets that come down are handed over.
+/// Where the packets that come down are handed over.
 pub trait Outlet {
-    // What was handed over, where that is known.
+    // What was handed over, if that is known.
     ghost handed: { Self → Option (List (List ℕ)) };
 
     // How many octets were passed over.
@@ -39,7 +39,7 @@ pub trait Outlet {
 
 /// Reads a stream to its end, or until no more is taken, and hands over the packets into which it
 /// is cut by the lengths that headers say, each as soon as its last octet has come. It ends at
-/// octets with which no packet begins. Where it resumes, it passes over them instead, and goes on
+/// octets with which no packet begins. If it resumes, it passes over them instead, and goes on
 /// with the next packet that has a right checksum, which may be one within a packet that was
 /// damaged.
 ///
@@ -79,7 +79,7 @@ pub fn hand_packets<S: Source, O: Outlet>(
     }
 }
 
-// The same fault where nothing is written: no write ever fails then.
+// The same fault if nothing is written: no write ever fails then.
 fn not_written(fault: StreamFault) -> StreamFault
     ensures { result ≡ not_written fault }
 {

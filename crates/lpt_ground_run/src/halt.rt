@@ -10,10 +10,11 @@ pub enum Halt {
     End,
     /// Where no more are taken.
     Closed,
-    /// At the octet of this number, where 0 is the stream's first: no packet begins there. At
-    /// 2^64 - 1, there or behind it.
+    /// At the octet of this number, counted from 0: no packet begins there. 2^64 - 1 stands for
+    /// more, too.
     Stray(u64),
-    /// At its end, within the packet that begins at the octet of this number, as there.
+    /// At its end, within the packet that begins at the octet of this number, counted as for
+    /// `Stray`.
     Within(u64),
 }
 

@@ -30,8 +30,8 @@ pub enum HearFault {
 
 /// Is told how far a pass is.
 pub trait Notes {
-    /// Before each round, and once the pass is at its end, so much was counted, and this became of
-    /// its requests. It answers whether the pass may go on.
+    /// Is told, before each round and once the pass is at its end, what was counted and what became
+    /// of its requests. It answers whether the pass may go on.
     fn keep(&mut self, counts: RunCounts, asked: &[Asked]) -> bool;
 }
 
@@ -83,7 +83,7 @@ pub struct Hearing<R: Wait + Clock + Drop, N: Notes + Drop> {
     // How long nothing comes until a wait is over.
     wait: Duration,
     notes: N,
-    // Why nothing more will come, where it isn't the end of what comes down.
+    // Why nothing more will come, if it isn't the end of what comes down.
     fault: Option<StreamFault>,
     // Where what came ended, if it has, and how many octets were passed over before.
     halt: Option<Halt>,
@@ -94,7 +94,7 @@ pub struct Hearing<R: Wait + Clock + Drop, N: Notes + Drop> {
 
 impl<R: Threads + Wait + Clock + Copy + Drop + Send + 'static, N: Notes + Drop> Hearing<R, N> {
     /// Starts a thread that reads this source, and hears what it hands over. It reads up to octets
-    /// with which no packet begins, or, where it resumes, to the source's end. A wait is over once
+    /// with which no packet begins, or, if it resumes, to the source's end. A wait is over once
     /// nothing has come for so many milliseconds.
     ///
     /// The thread isn't joined: it ends with its source, with the process, or once it has a packet

@@ -13,8 +13,8 @@ use lpt_requests::{Area, AreaPlace, CutFault, Read, load_requests, read_requests
 use std::alloc::Global;
 use thiserror::Error;
 
-/// So many octets more than the load of as many has, the report of a dump has; and the report of a
-/// check has as many as the load of so many.
+/// How many octets more a dump's report has than the load of the same octets. A check's report is
+/// as long as the load of so many octets.
 const LESS: u16 = 6;
 
 /// How many octets a check is of at most: of so many a checksum shows any three wrong bits.
@@ -38,7 +38,7 @@ pub enum PlanFault {
     /// A dump's report would be longer than a packet of parts of so few octets.
     #[error("a dump's report has more octets than a packet of these parts: give more to a part")]
     Narrow,
-    /// The same of a check's report.
+    /// A check's report would be longer than a packet of parts of so few octets.
     #[error("a check's report has more octets than a packet of these parts: a part needs 6 octets")]
     NarrowCheck,
     /// A request's packet would be too long.
@@ -123,7 +123,7 @@ pub fn plan_loads(
 
 /// The dumps or the checks of places, of one place with so many octets each.
 ///
-/// Errors: as there.
+/// Errors: as of `plan_loads`.
 pub fn plan_reads(
     alloc: Global,
     heads: &Heads,

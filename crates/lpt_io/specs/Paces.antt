@@ -5,7 +5,7 @@ use Rattle.std.specs.Prelude.{ℕ, ◌-◌, ◌*◌, ◌/◌, ◌==◌, nat_lt, 
 abbrev pub rate_of : (done millis : ℕ) → ℕ
 rate_of done millis = done * 1000 / millis
 
--- in how many seconds the rest comes at this rate, where one is known
+-- in how many seconds the rest comes at this rate, if one is known
 abbrev pub rest_at : (rate rest : ℕ) → Option ℕ
 rest_at rate rest = if rate == 0 then None else Some (rest / rate)
 

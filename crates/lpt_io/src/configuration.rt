@@ -40,7 +40,7 @@ pub fn settings_of(
     Ok((config, memories, turns))
 }
 
-// A configuration where the words win over it.
+// A configuration with what the words say, which wins over it.
 fn with_words(config: Config, words: &SettingWords<'_>) -> Config {
     Config {
         apid: words.apid.unwrap_or(config.apid),
@@ -77,7 +77,7 @@ fn read_at(
     }
 }
 
-/// The same configuration alone.
+/// The configuration alone, as `settings_of` gives it.
 ///
 /// Errors: as of `settings_of`.
 pub fn config_of(

@@ -18,7 +18,7 @@ pub struct Failure {
     fault: Fault,
     // Whether nothing is reported of it.
     quiet: bool,
-    // Where it is, and what is wrong there, where that is known.
+    // Where it is, and what is wrong there, if that is known.
     place: Option<String>,
 }
 
@@ -35,7 +35,7 @@ impl Failure {
         }
     }
 
-    /// That nobody reads the output any more, of which nothing is reported.
+    /// The failure that nobody reads the output any more, of which nothing is reported.
     pub fn unread() -> Self
         ensures { fault_of result ≡ Fault.Write }
     {
@@ -116,7 +116,7 @@ pub fn tell_place(rt: &impl Eprint, place: &str) {
     let _ = rt.eprintln("");
 }
 
-/// Says so of a text, unless there was no memory for it.
+/// Says a text on standard error as `tell_place` does, unless there was no memory for it.
 pub fn tell_text(rt: &impl Eprint, text: Result<String, AllocError>) {
     if let Ok(text) = text {
         tell_place(rt, text.as_str());
@@ -148,7 +148,7 @@ pub fn word_refused(rt: &impl Eprint, alloc: Global, fault: &WordFault<'_>) -> S
     }
 }
 
-// The status by which the program ends that only had to say this, after it was printed. Where
+// The status by which the program ends that only had to say this, after it was printed. If
 // nobody reads it, nothing is reported of that.
 fn say_and_end<R: Print + Eprint>(rt: &R, alloc: Global, error: &clap::Error) -> Status {
     if error.kind() == ErrorKind::OutOfMemory {

@@ -33,7 +33,7 @@ pub enum Origin<R: Files + Input> {
 }
 
 impl<R: Files + Input> Origin<R> {
-    // How many octets it has, where that is known.
+    // How many octets it has, if that is known.
     fn size(&self) -> Option<u64> {
         let Origin::File(file) = self else {
             return None;
@@ -198,9 +198,9 @@ pub fn read_failure<R: Machine>(rt: &R, source: &Incoming<R>, path: &str) -> Fai
     }
 }
 
-/// Why the packets that are read at these paths failed, if a read did. Else standard error is
-/// told if they end before the place from which on they are read, and which captures end within
-/// a record, if the voice tells that: what stands in front of it was read.
+/// Why the packets that are read at these paths failed, if a read did. Otherwise standard error is
+/// told if they end before the place from which on they are read, and which captures end within a
+/// record, if the voice tells that: what stands in front of it was read.
 pub fn packets_end<R: Machine>(
     rt: &R,
     voice: Voice,

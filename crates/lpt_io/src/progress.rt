@@ -21,8 +21,8 @@ pub struct Voice {
 }
 
 impl Voice {
-    /// That of a command, of which nothing is to be told but what is wrong, or more. How far it is
-    /// is told if standard error is a terminal.
+    /// The voice of a command: if it is quiet, it tells only what is wrong. It tells how far a
+    /// reading is only if standard error is a terminal.
     pub fn new(terminals: Terminals, quiet: bool) -> Voice
         ensures tells { tells_of result ≡ not quiet }
         ensures paced { is_paced result ≡ (not quiet && terminals.errors) }
@@ -35,8 +35,8 @@ impl Voice {
         }
     }
 
-    /// The same of a command that writes while it reads: how far it is isn't told if standard
-    /// output is a terminal too.
+    /// The voice of a command that writes while it reads: it doesn't tell how far a reading is if
+    /// standard output is a terminal too.
     pub fn beside_output(self) -> Voice
         ensures tells { tells_of result ≡ tells_of self }
         ensures paced { is_paced result ≡ (is_paced self && is_apart self) }
@@ -126,7 +126,7 @@ impl<R: Clock + Eprint + AllocGlobal> Pace<R> {
     }
 
     // Tells it after so long a reading, and leaves the cursor at the line's front: what is told
-    // next stands over it. Where a file has grown, its length isn't known any more.
+    // next stands over it. If a file has grown, its length isn't known any more.
     fn tell(&self, taken: Duration) {
         let whole = self.of.filter(|of| self.done <= *of);
         let millis = u64::try_from(taken.as_millis()).unwrap_or(u64::MAX);

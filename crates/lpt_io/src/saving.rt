@@ -26,7 +26,7 @@ pub fn write_beside<R: Files + AllocGlobal>(
     lpt_disk::write_whole(&mut PlainDisk { rt }, part.as_str(), path, octets)
 }
 
-/// The same, and forces to the disk first the octets, and then the name. If this path is a
+/// Does the same, and forces to the disk first the octets, and then the name. If this path is a
 /// symbolic link, it is the file behind it that is written. The file's mode stays, and if the
 /// system allows it the owner.
 ///
@@ -167,7 +167,7 @@ pub fn file_behind(rt: &(impl Files + AllocGlobal), path: &str) -> io::Result<St
     Err(io::Error::from(ErrorKind::FilesystemLoop))
 }
 
-// Where the symbolic link at a path leads, where there is one.
+// Where the symbolic link at a path leads, if there is one.
 fn link_at(rt: &(impl Files + AllocGlobal), path: &str) -> io::Result<Option<String>> {
     let target = fs::read_link(rt, path);
     if let Err(error) = &target {
@@ -178,7 +178,7 @@ fn link_at(rt: &(impl Files + AllocGlobal), path: &str) -> io::Result<Option<Str
     Ok(Some(target?.into_string()))
 }
 
-// What the system knows of the file at a path, where there is one. It is an error where it is
+// What the system knows of the file at a path, if there is one. It is an error if it is
 // anything else than a file.
 fn known_at(rt: &impl Files, path: &str) -> io::Result<Option<Metadata>> {
     let known = fs::metadata(rt, path);
@@ -201,7 +201,7 @@ fn not_written(alloc: Global, path: &str, error: &io::Error) -> Failure {
     Failure::at(Fault::Write, place)
 }
 
-// A new file under the other name, in place of one that a process which died has left. Where it is
+// A new file under the other name, in place of one that a process which died has left. If it is
 // to have the mode of another, nobody else can read it yet.
 fn part_opened<R: Files>(rt: &R, part: &str, is_private: bool) -> io::Result<R::File> {
     let _ = fs::remove_file(rt, part);

@@ -16,7 +16,7 @@ coded_source =
     (λ q. record { apid = q.0; sizes = q.1.0; message = q.1.1 })
     (λ _. refl)
 
--- the message of a job that waits, or the reading of another, where there is one
+-- the message of a job that waits, or the reading of another, if there is one
 abbrev pub parts_of : Job → List ℕ ⊎ Option Source
 parts_of (Waiting m) = inl m
 parts_of Claimed = inr None

@@ -10,7 +10,7 @@ use Rattle.lpt_jobs.specs.declared.front.Front.TheVariants as front
 
 -- ---- what a queue has
 
--- the number of the job at the front, or of the next one where there is none, and the jobs that
+-- the number of the job at the front, or of the next one if there is none, and the jobs that
 -- aren't executed, in order of release
 pub record Jobs : Type 0 where
   pub first : ℕ

@@ -17,7 +17,7 @@ use std::mem;
 /// The jobs that aren't executed yet, each as far as it has come.
 #[derive(Drop)]
 pub struct JobQueue {
-    // The number of the job at the front, or of the next one where there is none.
+    // The number of the job at the front, or of the next one if there is none.
     first: u64,
     // The oldest first.
     jobs: VecDeque<Job>,
@@ -130,7 +130,8 @@ impl JobQueue {
         }
     }
 
-    /// Takes the youngest job out, which must wait: its message. Its number is given again.
+    /// Takes the youngest job out, which must wait, and gives its message. Its number is given
+    /// again.
     pub fn pop_back(&mut self) -> Octets
         requires { IsPushed self.old }
         ensures { self.old ≡ after_push self.new result }
@@ -141,8 +142,8 @@ impl JobQueue {
         message
     }
 
-    /// Claims the oldest job that waits, of which there must be one: its number and its message,
-    /// which is moved out. It takes no memory.
+    /// Claims the oldest job that waits, of which there must be one, and gives its number and its
+    /// message, which is moved out. It takes no memory.
     pub fn claim(&mut self) -> (u64, Octets)
         requires { IsSome (oldest_unclaimed self.old) }
         ensures job { oldest_unclaimed self.old ≡ Some result }
@@ -166,7 +167,7 @@ impl JobQueue {
         self.jobs[place] = Job::Committed(reading);
     }
 
-    /// Takes the job at the front out, which must be ready: its reading.
+    /// Takes the job at the front out, which must be ready, and gives its reading.
     pub fn pop_front(&mut self) -> Reading
         requires { IsTrue (is_ready (head_of self.old.jobs)) }
         ensures front { self.old.jobs ≡ Committed result ∷ self.new.jobs }

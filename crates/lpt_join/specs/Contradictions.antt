@@ -9,7 +9,7 @@ use Rattle.lpt_join.specs.Joins.{Joined, Missing, Complete, Broken, join_part}
 use Rattle.lpt_join.specs.Messages.{is_part_of}
 use Rattle.lpt_join.specs.Offers.{part_offered}
 
--- the part of the transaction that a piece of a stream carries, where it is a packet that does
+-- the part of the transaction that a piece of a stream carries, if it is a packet that does
 abbrev pub offered_in : Transaction → PieceKind → List ℕ → Option (ℕ × Kept)
 offered_in t Whole b = part_offered t b
 offered_in t Damaged b = None
@@ -23,12 +23,12 @@ is_against p (Complete m) (Some x) = not (is_part_of m p x)
 is_against p Broken (Some x) = true
 is_against p j None = false
 
--- a place, where there is one; or the other
+-- a place, if there is one; or the other
 abbrev pub place_or : Option ℕ → Option ℕ → Option ℕ
 place_or (Some at) other = Some at
 place_or None other = other
 
--- the place, where it is one
+-- the place, if it is one
 abbrev pub place_if : Bool → ℕ → Option ℕ
 place_if there at = if there then Some at else None
 

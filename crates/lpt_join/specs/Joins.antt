@@ -11,7 +11,7 @@ pub data Joined : Type 0 where
   Complete : List ℕ → Joined
   Broken : Joined
 
--- the set, or the message that it spells where it is whole
+-- the set, or the message that it spells if it is whole
 abbrev pub kept_by : (whole : Bool) → Parts → Joined
 kept_by whole s = if whole then Complete (spelled s) else Missing s
 

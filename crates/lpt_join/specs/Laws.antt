@@ -117,7 +117,7 @@ HasNumber n (k ∷ ks) = (k ≡ n) ⊎ HasNumber n ks
 
 -- ---- which part is the last that came
 
--- the number is the highest that is there, or 0 where none is
+-- the number is the highest that is there, or 0 if none is
 pub record IsHighest (there : ℕ → Bool) (last : ℕ) : Type 0 where
   pub most : (n : ℕ) → there n ≡ true → n ≤ last
   pub is : (last ≡ 0) ⊎ (there last ≡ true)

@@ -29,23 +29,23 @@ kind_to Down = Tm
 abbrev pub IsFit : Direction → List ℕ → Type 0
 IsFit d m = (f : Fields) × IsPacket m f × (f.kind ≡ kind_to d)
 
--- why a packet of this kind is none of the direction, where it isn't
+-- why a packet of this kind is none of the direction, if it isn't
 abbrev pub kind_misfit : Direction → PacketKind → Option Misfit
 kind_misfit Up Tc = None
 kind_misfit Up Tm = Some OtherKind
 kind_misfit Down Tc = Some OtherKind
 kind_misfit Down Tm = None
 
--- why what is read like this is no packet of the direction, where it isn't
+-- why what is read like this is no packet of the direction, if it isn't
 abbrev pub sight_misfit : Direction → Result Sight PacketFault → Option Misfit
 sight_misfit d (Ok (APacket f)) = kind_misfit d f.kind
 sight_misfit d (Ok IdlePacket) = Some OtherKind
 sight_misfit d (Err e) = Some (NoPacket e)
 
--- why octets are no packet of the direction, where they aren't
+-- why octets are no packet of the direction, if they aren't
 abbrev pub misfit : Direction → List ℕ → Option Misfit
 misfit d m = sight_misfit d (verdict m)
 
--- the same, where not any octets are taken
+-- the same, if not any octets are taken
 abbrev pub unfit : Direction → (any : Bool) → List ℕ → Option Misfit
 unfit d any m = if any then None else misfit d m

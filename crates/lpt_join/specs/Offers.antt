@@ -8,12 +8,12 @@ use Rattle.lpt_events.specs.Sides.{receiver_side}
 use Rattle.lpt_reception.specs.Received.{Kept}
 use Rattle.lpt_join.specs.declared.transaction.Transaction.{Transaction}
 
--- the part that has arrived, where one has
+-- the part that has arrived, if one has
 abbrev pub piece_of : Arrival → Option NamedPart
 piece_of (APart q) = Some q
 piece_of _ = None
 
--- the part of any transaction of its direction that octets carry, where they do: what they are to
+-- the part of any transaction of its direction that octets carry, if they do: what they are to
 -- the node that receives in that direction
 abbrev pub piece_in : Transaction → List ℕ → Option NamedPart
 piece_in t b = piece_of (arrival (receiver_side t.direction) t.apid t.part_size b)
@@ -22,11 +22,11 @@ piece_in t b = piece_of (arrival (receiver_side t.direction) t.apid t.part_size 
 abbrev pub part_of_piece : Piece → ℕ × Kept
 part_of_piece q = (q.number, record { kind = q.kind; octets = q.octets })
 
--- the part, where it is one of this transaction
+-- the part, if it is one of this transaction
 abbrev pub part_of_name : Name → Option NamedPart → Option (ℕ × Kept)
 part_of_name name None = None
 part_of_name name (Some q) = if same_name q.name name then Some (part_of_piece (bare q)) else None
 
--- the part of the transaction that octets carry, where they do
+-- the part of the transaction that octets carry, if they do
 unfoldable pub part_offered : Transaction → List ℕ → Option (ℕ × Kept)
 part_offered t b = part_of_name t.name (piece_in t b)

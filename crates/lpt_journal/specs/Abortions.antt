@@ -26,7 +26,7 @@ pub record Abortion : Type 0 where
   pub direction : Direction
   pub name : Name
 
--- the reception that expired or was broken off by an event at this place, where one was
+-- the reception that expired or was broken off by an event at this place, if one was
 abbrev pub abortion_at : (place : ℕ) → Act → Answer → List Abortion
 abortion_at place (Deliver l) (Delivered (Broken name reason)) =
     record { place = place; direction = lane_direction l; name = name } ∷ []

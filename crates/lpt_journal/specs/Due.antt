@@ -20,7 +20,7 @@ abbrev pub comes_first : (Name → ℕ) → Name → Name → Bool
 comes_first tick name other =
     nat_lt (tick name) (tick other) || ((tick name == tick other) && name_before name other)
 
--- the one of two names that comes first, where there is another
+-- the one of two names that comes first, if there is another
 abbrev pub first_of_two : (Name → ℕ) → Name → Option Name → Option Name
 first_of_two tick name None = Some name
 first_of_two tick name (Some other) = if comes_first tick name other then Some name else Some other

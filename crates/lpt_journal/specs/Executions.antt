@@ -34,7 +34,7 @@ ending_of c first h m =
     ending c.part_size (is_some (least_free h Down (request_source c.apid m)))
     (nat_lt (open_count h Down) (limits c h Craft).outgoing) (effect_of c (memories c first h) m)
 
--- how the execution of the oldest request ends now; where there is none, it is refused
+-- how the execution of the oldest request ends now; if there is none, it is refused
 abbrev pub front_ending : Config → Contents → History → Ending
 front_ending c first h = option_map_or (λ r. ending_of c first h r.message) (front_job c h) Silent
 

@@ -18,7 +18,7 @@ hand_after (Take k n) l before = if same_lane k l then Some n else before
 hand_after (Deliver k) l before = if same_lane k l then None else before
 hand_after _ l before = before
 
--- the number that the lane took last, where it delivered none after that
+-- the number that the lane took last, if it delivered none after that
 abbrev pub hand : History → Lane → Option ℕ
 hand [] l = None
 hand (x ∷ h) l = hand_after x.event l (hand h l)
@@ -29,10 +29,10 @@ hand (x ∷ h) l = hand_after x.event l (hand h l)
 abbrev pub arrival_of : Config → SentPacket → Arrival
 arrival_of c p = arrival_in c p.direction p.octets
 
--- what the packet numbered n is, delivered in this direction; where there is none, that is refused
+-- what the packet numbered n is, delivered in this direction; if there is none, that is refused
 abbrev pub arrival_at : Config → History → Direction → ℕ → Arrival
 arrival_at c h d n = option_map_or (λ p. arrival_in c d p.octets) (slice_get (sent h) n) NotRead
 
--- what the packet in a lane's hand is; where the hand is empty, its delivery is refused
+-- what the packet in a lane's hand is; if the hand is empty, its delivery is refused
 abbrev pub in_hand : Config → History → Lane → Arrival
 in_hand c h l = option_map_or (arrival_at c h (lane_direction l)) (hand h l) NotRead

@@ -144,7 +144,7 @@ EachIsOfGround c h = (k : ℕ) (r : Release) → slice_get (executed c h) k ≡ 
 -- ---- deliveries
 
 -- What was delivered is read as a part that contradicts nothing, or as a message that is no part,
--- but where the packet was damaged: exactly then it isn't read. A part breaks its reception off in
+-- unless the packet was damaged: exactly then it isn't read. A part breaks its reception off in
 -- strict mode alone, and there only since it isn't the next one.
 pub record IsSoundOutcome (mode : Mode) (damaged : Bool) (o : Outcome) : Type 0 where
   pub only_gaps : (name : Name) (reason : Reason)

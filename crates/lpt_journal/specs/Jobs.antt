@@ -71,13 +71,13 @@ job_given c h =
     option_map (λ r. record { boot = boot h Craft; job = jobs_claimed h; message = r.message })
     (slice_get (jobs c h) (jobs_claimed h))
 
--- the job that a worker has after an event, where this one is given to it that claims
+-- the job that a worker has after an event, if this one is given to it that claims
 abbrev pub ticket_after : Act → (given : Option Job) → Worker → Option Job → Option Job
 ticket_after (Claim v) given w before = if same_worker v w then given else before
 ticket_after (Commit v) given w before = if same_worker v w then None else before
 ticket_after _ given w before = before
 
--- the job that a worker claimed last, where it committed none after that; it keeps it whatever node
+-- the job that a worker claimed last, if it committed none after that; it keeps it whatever node
 -- is restarted
 abbrev pub ticket : Config → History → Worker → Option Job
 ticket c [] w = None
@@ -101,7 +101,7 @@ is_committed (x ∷ h) job =
 abbrev pub front_job : Config → History → Option Release
 front_job c h = slice_get (jobs c h) (jobs_applied h)
 
--- what an event executes, where this job is the oldest
+-- what an event executes, if this job is the oldest
 abbrev pub executed_now : Act → Option Release → List Release
 executed_now Apply (Some r) = r ∷ []
 executed_now _ front = []

@@ -144,7 +144,7 @@ past_after (Tick t turn) side before =
     if same_side t side then past_turned turn before else before
 past_after _ side before = before
 
--- the receiver's clock when it last took a part; 0 where it took none, and then none is open
+-- the receiver's clock when it last took a part; 0 if it took none, and then none is open
 abbrev pub last_tick : Config → History → Direction → Name → ℕ
 last_tick c [] d name = 0
 last_tick c (x ∷ h) d name =

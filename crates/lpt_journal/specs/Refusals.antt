@@ -37,7 +37,7 @@ turn_reasons clock On = (clock == greatest_clock, ClockEnd) ∷ []
 turn_reasons clock (Back n) = []
 turn_reasons clock (Within l) = []
 
--- the fault where no reception is given up: none is due, or that of the name isn't open
+-- the fault if no reception is given up: none is due, or that of the name isn't open
 abbrev pub expiry_fault : Option Name → StepFault
 expiry_fault None = NothingDue
 expiry_fault (Some name) = NotOpen
@@ -77,6 +77,6 @@ reasons c h (Retire d name) =
     ∷ (not (is_clear c h d name), NotClear) ∷ []
 reasons c h (Restart side) = []
 
--- why an event is refused, where it is
+-- why an event is refused, if it is
 abbrev pub refusal : Config → History → Act → Option StepFault
 refusal c h e = first_fault (reasons c h e)

@@ -33,12 +33,12 @@ use Rattle.lpt_journal.specs.Delivery.{outcome}
 use Rattle.lpt_journal.specs.Executions.{front_applied, front_puts, front_opens}
 use Rattle.lpt_journal.specs.Jobs.{boot, jobs_claimed, ticket}
 
--- the end of the reception that is given up; where none is, that is refused
+-- the end of the reception that is given up; if none is, that is refused
 abbrev pub expired_now : Direction → Option Name → Answer
 expired_now d None = Expired d no_name
 expired_now d (Some name) = Expired d name
 
--- the commit of this job in this boot: one of an earlier boot is stale; where a worker has none, that
+-- the commit of this job in this boot: one of an earlier boot is stale; if a worker has none, that
 -- is refused
 abbrev pub committed_now : (boot : ℕ) → Option Job → Answer
 committed_now boot None = Committed 0 0
@@ -109,7 +109,7 @@ abbrev pub outcome_puts : Config → History → Side → Outcome → List SentP
 outcome_puts c h side (Broken name reason) = abort_puts c h side name reason
 outcome_puts c h side _ = []
 
--- what the end of the reception that is given up puts; where none is, it is refused
+-- what the end of the reception that is given up puts; if none is, it is refused
 abbrev pub expiry_puts : Config → History → Side → Option Name → List SentPacket
 expiry_puts c h side None = []
 expiry_puts c h side (Some name) = abort_puts c h side name reason.Expired

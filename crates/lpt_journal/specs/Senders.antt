@@ -31,7 +31,7 @@ abbrev pub retires : Act → Direction → Name → Bool
 retires (Retire e i) d name = same_direction e d && same_name i name
 retires _ d name = false
 
--- the last opening of the transaction, where it was not retired after that
+-- the last opening of the transaction, if it was not retired after that
 abbrev pub current : History → Direction → Name → Option Opening
 current [] d name = None
 current (x ∷ h) d name =
@@ -72,7 +72,7 @@ sender_of None over = FreeSender
 sender_of (Some o) true = ClosedSender
 sender_of (Some o) false = OpenSender o.message
 
--- the sender's state: free with no opening, closed where something closed it after that, else open
+-- the sender's state: free with no opening, closed if something closed it after that, else open
 abbrev pub sender : History → Direction → Name → Sender
 sender h d name = sender_of (current h d name) (is_over h d name)
 
@@ -164,7 +164,7 @@ count h d = count_after (packets_made h d)
 abbrev pub is_report : (service subtype : ℕ) → List ℕ → Bool
 is_report service subtype b = same_octets (take 2 (drop 7 b)) (service ∷ subtype ∷ [])
 
--- the message type counter of the next telemetry of this service and message subtype, where these
+-- the message type counter of the next telemetry of this service and message subtype, if these
 -- packets were made: 16 bits
 abbrev pub counter_after : List (List ℕ) → (service subtype : ℕ) → ℕ
 counter_after packets service subtype = length (filter (is_report service subtype) packets) % type_counters

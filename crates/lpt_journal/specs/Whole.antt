@@ -65,7 +65,7 @@ pub record WasAborted (h : History) (o : Opening) : Type 0 where
   pub is_of : opening_of_abortion h abortion ≡ Some o
 
 -- Nothing that came whole is withheld: what was last opened under a name, and each part of which
--- came since then and since its receiver was restarted, was released, but where its reception
+-- came since then and since its receiver was restarted, was released, unless its reception
 -- expired or was broken off.
 abbrev pub WholeIsReleased : Config → History → Type 0
 WholeIsReleased c h =

@@ -39,7 +39,7 @@ restarted_since [] w = false
 restarted_since (x ∷ h) w =
     if is_claim_of x.event w then false else restarts x.event Craft || restarted_since h w
 
--- the answer to a commit of this job: stale where the spacecraft was restarted since its claim
+-- the answer to a commit of this job: stale if the spacecraft was restarted since its claim
 abbrev pub commit_answer : (restarted : Bool) → Job → Answer
 commit_answer true t = Stale t.boot t.job
 commit_answer false t = Committed t.boot t.job
@@ -73,7 +73,7 @@ pub record IsSameBut (c : Config) (first : Contents) (w : Worker) (new old : His
   pub released : releases c new ≡ releases c old
 
 -- A commit hands in the job that the worker claimed last. It answers that the job is stale exactly
--- where the spacecraft was restarted since that claim, and changes nothing else then.
+-- if the spacecraft was restarted since that claim, and changes nothing else then.
 pub record IsCommit (c : Config) (first : Contents) (x : Recorded) (h : History) (w : Worker) : Type 0 where
   pub job : Job
   pub was_claimed : ticket c h w ≡ Some job

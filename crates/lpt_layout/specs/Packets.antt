@@ -1,4 +1,4 @@
--- What a packet is where it may have no packet error control.
+-- What a packet is if it may have no packet error control.
 use Rattle.std.specs.Prelude.{◌≡◌, ℕ, ◌+◌, ◌-◌, ◌*◌, ◌/◌, ◌%◌, ◌≤◌, ◌==◌, nat_lt, Bool, true, false, if◌then◌else◌, List, ◌++◌, length, drop, Result, Ok, Err}
 use Rattle.lpt_packet.specs.declared.fault.PacketFault.{PacketFault}
 use Rattle.lpt_packet.specs.declared.fault.PacketFault.TheVariants.{Short, Version, Length, Segmented, NoSecondary}
@@ -20,7 +20,7 @@ bare_header f =
     be (packet_type f.kind * 4096 + 2048 + f.apid) 2 ++ be (49152 + f.count) 2
     ++ be (length f.octets - 1) 2
 
--- octets, with their packet error control behind them where there is one
+-- octets, with their packet error control behind them if there is one
 abbrev pub packet_closed : Bool → List ℕ → List ℕ
 packet_closed true front = octets_sealed front
 packet_closed false front = front

@@ -15,7 +15,7 @@ use Rattle.lpt_layout.specs.Numbers.{octets_of, number_at}
 abbrev pub IsPartSizeAs : ℕ → Type 0
 IsPartSizeAs p = (1 ≤ p) × (p ≤ 65535)
 
--- a number of octets, where it is a part size
+-- a number of octets, if it is a part size
 abbrev pub a_size : ℕ → Option ℕ
 a_size n = if nat_le 1 n && nat_le n 65535 then Some n else None
 

@@ -15,7 +15,7 @@ use Rattle.lpt_layout.specs.Parts.{PieceFits, body_as}
 abbrev pub octets_as : Layout → PacketKind → Said → List ℕ
 octets_as l kind s = spelling_as l.has_checksum (packet_of l kind s)
 
--- what a writer made is these octets, of what fits: they are too long exactly where they are more
+-- what a writer made is these octets, of what fits: they are too long exactly if they are more
 -- than a packet has; otherwise memory may have run out
 abbrev pub Writes : Type 0 → List ℕ → Result (List ℕ) LayoutFault → Type 0
 Writes fits s (Ok o) = fits × (length s ≤ longest_packet) × (o ≡ s)

@@ -49,7 +49,7 @@ pub fn part_at_as(message: &[u8], p: u32, id: u32, k: u32) -> PartAs<'_>
     }
 }
 
-// The octets of part `k` of a message, `None` where it has fewer.
+// The octets of part `k` of a message, `None` if it has fewer.
 fn slice_as(message: &[u8], p: u32, k: u32) -> Option<&[u8]>
     requires { IsPartSizeAs p }
     ensures some { IsSome result ↔ ((1 ≤ k) × (k ≤ part_count (length message.now) p)) }

@@ -48,7 +48,7 @@ pub fn write_tc_as(
     write_as(alloc, layout, PacketKind::Tc, message)
 }
 
-// The octets of a message's packet, where its fields fit.
+// The octets of a message's packet, if its fields fit.
 fn write_as(
     alloc: Global,
     layout: &Layout,
@@ -108,7 +108,7 @@ fn message_octets(
     packet_closed(octets, layout.has_checksum)
 }
 
-// Octets, with their packet error control behind them where there is one.
+// Octets, with their packet error control behind them if there is one.
 fn packet_closed(mut octets: Vec<u8>, has_checksum: bool) -> Result<Octets, AllocError>
     ensures { IfOk result (λ o. o ≡ packet_closed has_checksum octets.items) }
 {

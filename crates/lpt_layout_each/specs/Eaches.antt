@@ -24,7 +24,7 @@ pub record Held : Type 0 where
   pub all : Option Came
   pub new : Came
 
--- these parts came behind a message, and no others; where there is none, both would be the same,
+-- these parts came behind a message, and no others; if there is none, both would be the same,
 -- and one is enough
 abbrev pub held_begun : (last : Option Came) → Came → Held
 held_begun last c = record { last = last; all = option_map (λ _. c) last; new = c }
@@ -46,12 +46,12 @@ pub data Turn : Type 0 where
   GivesUp : News → Came → Turn
   Gives : Came → List ℕ → Turn
 
--- with what is begun anew where a whole isn't given out: with the part that made it whole, which
+-- with what is begun anew if a whole isn't given out: with the part that made it whole, which
 -- may be of the next message, or with nothing
 abbrev pub seed : (again : Bool) → Piece → Came
 seed again q = if again then alone q else nothing_came
 
--- what a whole makes: it is given, where it is fit to be, though its parts may not have come in
+-- what a whole makes: it is given, if it is fit to be, though its parts may not have come in
 -- their order
 abbrev pub turn_fit : (again : Bool) → Piece → Came → List ℕ → Option MisfitAs → Turn
 turn_fit again q c m None = Gives c m
@@ -89,7 +89,7 @@ all_turn r any again all q = option_map (λ c. turn r any again c q) all
 abbrev pub message_given : Came → List ℕ → Held × Option News
 message_given c m = (held_begun (Some c) nothing_came, Some (Given m))
 
--- by all parts, where the new ones are these and not whole: where all would be given up, only the
+-- by all parts, if the new ones are these and not whole: if all would be given up, only the
 -- new ones are gone on with, in which nothing is lost
 abbrev pub after_all : (last : Option Came) → Came → Option Turn → Held × Option News
 after_all last new None = (record { last = last; all = None; new = new }, None)
@@ -97,7 +97,7 @@ after_all last new (Some (Waits c)) = (record { last = last; all = Some c; new =
 after_all last new (Some (GivesUp w c)) = (record { last = last; all = None; new = new }, None)
 after_all last new (Some (Gives c m)) = message_given c m
 
--- by the new parts first: where they are given up this is told, and all begin anew as they do
+-- by the new parts first: if they are given up this is told, and all begin anew as they do
 abbrev pub after : (last : Option Came) → Turn → Option Turn → Held × Option News
 after last (Waits c) o = after_all last c o
 after last (GivesUp w c) o = (held_begun last c, Some w)
@@ -177,7 +177,7 @@ abbrev pub spells : Option (List ℕ) → List ℕ → Bool
 spells None m = false
 spells (Some w) m = same_octets w m
 
--- what is told of a message whose parts came in their order: where parts came before them that
+-- what is told of a message whose parts came in their order: if parts came before them that
 -- aren't all its own, these are given up
 abbrev pub told_in_order : (own : Bool) → Came → List ℕ → News
 told_in_order own c m = if own then Given m else overtaken c m
@@ -202,12 +202,12 @@ is_given (Some (Dropped parts last)) = false
 is_given (Some (Unfit e)) = false
 is_given (Some (Overtaken parts last m)) = true
 
--- by what the others made of the part: where something is told, no part is left from before the run
+-- by what the others made of the part: if something is told, no part is left from before the run
 abbrev pub course_by : Run → (stale gave : Bool) → Held → Option News → Course
 course_by r stale gave h o =
     record { held = h; run = r; stale = stale && is_none o; gave = gave || is_given o }
 
--- a part with which no message is given out whose parts came in their order, where this is the run
+-- a part with which no message is given out whose parts came in their order, if this is the run
 -- with it
 abbrev pub go_on : Reading → (any again : Bool) → Course → Piece → Course × Option News
 go_on r any again c q = (
@@ -226,14 +226,14 @@ is_same (Some c) m = spells (message_of c.parts) m
 abbrev pub repeats : Course → (number : ℕ) → List ℕ → Bool
 repeats c n m = gave_before c n && is_same c.held.last m
 
--- where it isn't, it is given out
+-- if it isn't, it is given out
 abbrev pub end_by : Reading → (any : Bool) → Course → Piece → Came → List ℕ → (again : Bool)
     → Course × Option News
 end_by r any c q d m true = go_on r any false c q
 end_by r any c q d m false =
     (fresh (Some d), Some (told_in_order (are_own c d) c.held.new m))
 
--- one with which one is whole: it is given out, where it may be and wasn't yet
+-- one with which one is whole: it is given out, if it may be and wasn't yet
 abbrev pub end_run : Reading → (any : Bool) → Course → Piece → Came → List ℕ → Option MisfitAs
     → Course × Option News
 end_run r any c q d m None = end_by r any c q d m (repeats c q.number m)

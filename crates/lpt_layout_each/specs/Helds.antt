@@ -24,7 +24,7 @@ use Rattle.lpt_layout_join.specs.Names.{name_cmp}
 use Rattle.lpt_layout_each.specs.News.{News, Unfit, parts_dropped}
 use Rattle.lpt_layout_each.specs.Told.{news_of}
 
--- what is held is what came, where something is
+-- what is held is what came, if something is
 abbrev pub ShowsSome : Option Came → Option CameAs → Type 0
 ShowsSome None None = Unit {0}
 ShowsSome None (Some s) = ⊥
@@ -38,7 +38,7 @@ IsTurn again c q turned.Broken now = now ≡ GivesUp (parts_dropped (more c q)) 
 IsTurn again c q (turned.Unfit e) now = now ≡ GivesUp (Unfit e) (seed again q)
 IsTurn again c q (turned.Gives m) now = now ≡ Gives (more c q) m
 
--- the same of all parts, where they are kept
+-- the same of all parts, if they are kept
 abbrev pub IsTurnOfAll : (again : Bool) → Option Came → Piece → Option code.Turn → Option Turn
     → Type 0
 IsTurnOfAll again None q None None = Unit {0}
@@ -76,7 +76,7 @@ course_alone l o c = record {
   gave = false;
 }
 
--- where they were given up
+-- if they were given up
 abbrev pub broken_course : Held → Course
 broken_course h = record { held = h; run = no_run; stale = false; gave = false }
 
@@ -109,7 +109,7 @@ pub record Steps (g : CourseAs × Option NewsAs) (c : Course × Option News) : T
   pub follows : Follows c.0 g.0
   pub tells : option_map news_of g.1 ≡ c.1
 
--- this is kept of the name, or nothing where nothing came
+-- this is kept of the name, or nothing if nothing came
 abbrev pub IsHeld : Course → Option CourseAs → Type 0
 IsHeld c None = c ≡ nothing
 IsHeld c (Some g) = Follows c g

@@ -6,8 +6,8 @@ use Rattle.lpt_layout_join.specs.declared.last_part.LastPart.{LastPart}
 use Rattle.lpt_carried.specs.declared.name.Name.{Name}
 use Rattle.lpt_layout_join.specs.Came.{Came, last_of, octets_of}
 
--- A message became whole; parts were given up that weren't: the octets of part n + 1, where it
--- came, and the last part, where that did; what parts were joined to is no packet of the direction;
+-- A message became whole; parts were given up that weren't: the octets of part n + 1, if it
+-- came, and the last part, if that did; what parts were joined to is no packet of the direction;
 -- parts were given up, and with the same part a message became whole.
 pub data News : Type 0 where
   Given : List ℕ → News
@@ -23,7 +23,7 @@ parts_dropped c = Dropped (λ n. octets_of c.parts (n + 1)) (last_of c.parts)
 abbrev pub overtaken : Came → List ℕ → News
 overtaken c m = Overtaken (λ n. octets_of c.parts (n + 1)) (last_of c.parts) m
 
--- the message that is given out, where one is
+-- the message that is given out, if one is
 abbrev pub messages_of : News → List (List ℕ)
 messages_of (Given m) = m ∷ []
 messages_of (Dropped parts last) = []

@@ -20,7 +20,7 @@ use Rattle.lpt_layout_each.specs.Sends.{OneBefore}
 abbrev pub own_news : Transaction → (any : Bool) → List (List ℕ) → List News
 own_news t any bs = news (own_reading t) any (wide t.name) bs
 
--- why a whole isn't given out, where it isn't
+-- why a whole isn't given out, if it isn't
 abbrev pub unfit : Transaction → (any : Bool) → List ℕ → Option Misfit
 unfit t any m = if any then None else misfit t.direction m
 

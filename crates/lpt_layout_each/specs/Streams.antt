@@ -25,7 +25,7 @@ events_told r any n before b =
     (step_of r any (missing_at r (counts_of r before) b) (course_held r any n before)
     (part_of n (part_carried r b))).1)
 
--- what it tells of the name of its part, where it carries this
+-- what it tells of the name of its part, if it carries this
 abbrev pub told_by :
     Reading → (any : Bool) → (before : List (List ℕ)) → List ℕ → Result Named Skip → List Event
 told_by r any before b (Ok c) = events_told r any (name_of c) before b
@@ -45,7 +45,7 @@ events r any bs = events_from r any [] bs
 abbrev pub left_of : Reading → (any : Bool) → List (List ℕ) → Name → List Event
 left_of r any bs n = of n (news_left (course_held r any n bs))
 
--- of how many numbers these are parts, and the greatest of these, 0 where there are none
+-- of how many numbers these are parts, and the greatest of these, 0 if there are none
 abbrev pub waiting : Came → WaitingAs
 waiting c = record { count = count_in c.parts; highest = highest c.parts }
 

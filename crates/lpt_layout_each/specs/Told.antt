@@ -13,7 +13,7 @@ news_of (said.Dropped s) = Dropped (λ n. part_at s (n + 1)) (last_in s)
 news_of (said.Unfit e) = Unfit e
 news_of (said.Overtaken s m) = Overtaken (λ n. part_at s (n + 1)) (last_in s) m
 
--- news of a name, where there are
+-- news of a name, if there are
 abbrev pub events_of : Option (Name × NewsAs) → List Event
 events_of None = []
 events_of (Some e) = (e.0, news_of e.1) ∷ []

@@ -165,8 +165,8 @@ impl CourseAs {
         }
     }
 
-    // Takes a part with which parts are joined to this message that came in their order, where it
-    // may be given out: it is, where it wasn't yet. The only error is out of memory.
+    // Takes a part with which parts are joined to this message that came in their order, if it
+    // may be given out: it is, if it wasn't yet. The only error is out of memory.
     fn end_by(
         &mut self,
         alloc: Global,

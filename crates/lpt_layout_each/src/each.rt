@@ -50,7 +50,7 @@ pub fn each_as<S: Source, T: TakerAs>(
         (S.remaining source.new) (λ pieces. TellsPart reading.now any (packets_of pieces)
         (T.heard taker.old) (T.heard taker.new))) }
 
-    // Where a read fails, just what the packets tell that what was read before it shows.
+    // If a read fails, just what the packets tell that what was read before it shows.
     ensures settled { result ≡ Err StreamFault.Read → TakenAll (cut reading.now)
         (S.remaining source.old) (S.remaining source.new) (λ pieces.
         Hears (T.heard taker.old) (T.heard taker.new)

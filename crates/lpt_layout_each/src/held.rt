@@ -172,7 +172,7 @@ pub(crate) fn is_old(last: &Option<CameAs>, part: &PartAs<'_>) -> bool
     }
 }
 
-// Adds a part to all parts, where they are kept. The only error is out of memory.
+// Adds a part to all parts, if they are kept. The only error is out of memory.
 fn turn_of_all(
     alloc: Global,
     reading: &Reading,

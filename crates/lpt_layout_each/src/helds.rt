@@ -32,7 +32,7 @@ pub struct HeldsAs {
 }
 
 impl HeldsAs {
-    /// Nothing came.
+    /// What is kept before anything came.
     pub fn new(alloc: Global) -> HeldsAs
         ensures { (r : Reading) (any : Bool) → HoldsEach r any [] result }
     {

@@ -46,8 +46,8 @@ pub fn given_is_in_order()
 
 /// Over packets of messages one behind the other, under one name, just these messages are given
 /// out, in their order, and nothing is given up: if each is whole with the last of its packets,
-/// which may come in any order and more than once, with others in between. Only its last part
-/// doesn't come before its first.
+/// which may come in any order and more than once, with others in between, but its last part not
+/// before its first.
 pub fn sent_is_given()
     ensures { (r : Reading) (any : Bool) (n : Name) (messages packets : List (List ℕ))
         → Sends r any n messages packets → news r any n packets ≡ map Given messages }
@@ -108,7 +108,7 @@ pub fn own_given_is_there()
 /// At the profile's own layouts, over packets of messages one behind the other, under one name,
 /// just these messages are given out, in their order, and nothing is given up: if each is whole
 /// with the last of its packets, which may come in any order and more than once, with others in
-/// between. Only its last part doesn't come before its first.
+/// between, but its last part not before its first.
 pub fn own_sent_is_given()
     ensures { (t : Transaction) (any : Bool) (messages packets : List (List ℕ))
         → AllByRecursion IsOctets packets

@@ -25,7 +25,7 @@ pub trait TakerAs {
     ghost use Rattle.lpt_layout_each.specs.Told.{news_of};
     ghost use Rattle.lpt_layout_each.specs.News.{Event, Hears, HearsPart};
 
-    // What was told so far, where that is known.
+    // What was told so far, if that is known.
     ghost heard: { Self → Option (List Event) };
 
     /// Is told something more.

@@ -93,7 +93,7 @@ telemetry_of d = as_table d >>= telemetry_in
 abbrev pub telecommands_of : Data → Option Tailored
 telecommands_of d = as_table d >>= telecommands_in
 
--- a table's value, or the profile's own where there is none
+-- a table's value, or the profile's own if there is none
 abbrev pub tailored_or : Tailored → (Data → Option Tailored) → Option Data → Option Tailored
 tailored_or own of None = Some own
 tailored_or own of (Some d) = of d

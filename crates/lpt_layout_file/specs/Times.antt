@@ -32,7 +32,7 @@ time_coded preamble fields = record {
   code = Some (code_of preamble fields);
 }
 
--- what a name ends with: ` p` where a preamble field is in front
+-- what a name ends with: ` p` if a preamble field is in front
 abbrev pub preamble_in : List ℕ → Option Bool
 preamble_in [] = Some false
 preamble_in (s ∷ p ∷ []) = if s == 32 && p == 112 then Some true else None
@@ -87,7 +87,7 @@ code_or None n = n >>= λ n. Some (octets_alone n)
 abbrev pub time_in : Data → Option TimeField
 time_in d = code_or (as_str d) (number_in 0 16 d)
 
--- the same, or the profile's where there is none
+-- the same, or the profile's if there is none
 abbrev pub time_or : Option Data → Option TimeField
 time_or None = Some (octets_alone 4)
 time_or (Some d) = time_in d
@@ -116,7 +116,7 @@ since t None day = None
 since t (Some c) None = None
 since t (Some c) (Some day) = Some (record t { code = Some (record c { epoch = Some day }) })
 
--- the same since the day that a value is, where there is one
+-- the same since the day that a value is, if there is one
 abbrev pub since_or : TimeField → Option Data → Option TimeField
 since_or t None = Some t
 since_or t (Some d) = since t t.code (day_in d)

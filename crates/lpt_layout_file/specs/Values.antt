@@ -12,7 +12,7 @@ use Rattle.lpt_layout.specs.declared.width.Width.TheVariants.{Absent, Octet, Wor
 abbrev pub flag_in : Data → Option Bool
 flag_in d = as_bool d
 
--- the truth that a value is, or true where there is none
+-- the truth that a value is, or true if there is none
 abbrev pub flag_or : Option Data → Option Bool
 flag_or None = Some true
 flag_or (Some d) = flag_in d
@@ -25,7 +25,7 @@ flag_at key members = flag_or (get_member key members)
 abbrev pub version_of : ℕ → Version
 version_of n = if n == 1 then One else Two
 
--- the PUS version, which is 2 where the key is absent
+-- the PUS version, which is 2 if the key is absent
 abbrev pub version_at : Members → Option Version
 version_at members =
     number_at (codes "version") 1 2 (Some 2) members >>= λ n. Some (version_of n)
@@ -47,7 +47,7 @@ header_bits_in d = number_in 0 16 d >>= header_width
 abbrev pub part_bits_in : Data → Option Width
 part_bits_in d = number_in 16 32 d >>= part_width
 
--- what a value says by a rule, or 16 bits where there is none
+-- what a value says by a rule, or 16 bits if there is none
 abbrev pub width_or : (Data → Option Width) → Option Data → Option Width
 width_or bits None = Some Word
 width_or bits (Some d) = bits d
@@ -69,6 +69,6 @@ abbrev pub size_or : Option Data → Option (Option ℕ)
 size_or None = Some None
 size_or (Some d) = size_in d
 
--- the part size, where there is one
+-- the part size, if there is one
 abbrev pub size_at : Members → Option (Option ℕ)
 size_at members = size_or (get_member (codes "part_size") members)

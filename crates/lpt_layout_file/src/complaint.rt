@@ -12,7 +12,7 @@ use std::alloc::{AllocError, Global};
 ///
 /// The only error is out of memory.
 pub fn why_refused(alloc: Global, text: &str) -> Result<Option<Complaint>, AllocError>
-    // There is one exactly where the text isn't a TOML document, or its table means no layouts.
+    // There is one exactly if the text isn't a TOML document, or its table means no layouts.
     ensures found { IfOk result (λ c. not (is_some c)
         ≡ is_some (option_and_then layouts_of (parse_document text.now))) }
 {

@@ -13,7 +13,7 @@ use lpt_settings::{Reason, Wrong, number_of_value};
 use toml::{Table, Value};
 use toml_datetime::Datetime;
 
-// The time of telemetry: its octets, and how they say a date where that is known.
+// The time of telemetry: its octets, and how they say a date if that is known.
 #[derive(Clone, Copy)]
 pub(crate) struct TimeField {
     pub octets: u8,

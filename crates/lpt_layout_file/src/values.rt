@@ -10,7 +10,7 @@ use lpt_layout::{Version, Width};
 use lpt_settings::{Reason, Wrong, number, number_of_value};
 use toml::{Table, Value};
 
-// The truth at a key, which is true where the key is absent.
+// The truth at a key, which is true if the key is absent.
 pub(crate) fn flag(table: &Table, key: &'static str) -> Result<bool, Wrong<'static>>
     ensures { result_ok result ≡ flag_at key.now (table_view table.now) }
 {
@@ -30,7 +30,7 @@ fn flag_in(value: &Value, key: &'static str) -> Result<bool, Wrong<'static>>
     }
 }
 
-// The PUS version, which is 2 where the key is absent.
+// The PUS version, which is 2 if the key is absent.
 pub(crate) fn version(table: &Table) -> Result<Version, Wrong<'static>>
     ensures { result_ok result ≡ version_at (table_view table.now) }
 {
@@ -40,7 +40,7 @@ pub(crate) fn version(table: &Table) -> Result<Version, Wrong<'static>>
     }
 }
 
-// How wide a field of a header is, by its bits at a key; 16 where the key is absent.
+// How wide a field of a header is, by its bits at a key; 16 if the key is absent.
 pub(crate) fn header_bits(table: &Table, key: &'static str) -> Result<Width, Wrong<'static>>
     ensures { result_ok result ≡ header_bits_at key.now (table_view table.now) }
 {
@@ -62,7 +62,7 @@ fn header_bits_in(value: &Value, key: &'static str) -> Result<Width, Wrong<'stat
     }
 }
 
-// How wide a field of a part is, by its bits at a key; 16 where the key is absent.
+// How wide a field of a part is, by its bits at a key; 16 if the key is absent.
 pub(crate) fn part_bits(table: &Table, key: &'static str) -> Result<Width, Wrong<'static>>
     ensures { result_ok result ≡ part_bits_at key.now (table_view table.now) }
 {
@@ -83,7 +83,7 @@ fn part_bits_in(value: &Value, key: &'static str) -> Result<Width, Wrong<'static
     }
 }
 
-// The part size, where there is one.
+// The part size, if there is one.
 pub(crate) fn part_size(table: &Table) -> Result<Option<u32>, Wrong<'static>>
     ensures value { result_ok result ≡ size_at (table_view table.now) }
     ensures size { IfOk result SizeIsSize }

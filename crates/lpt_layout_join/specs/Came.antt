@@ -150,13 +150,13 @@ are_of qs whole =
     ends_in (last_of qs) (highest qs) (last_of whole)
     && none_other (octets_of qs) (octets_of whole) (highest qs)
 
--- octets, and more of them, where both are there
+-- octets, and more of them, if both are there
 abbrev pub and_more : Option (List ℕ) → Option (List ℕ) → Option (List ℕ)
 and_more (Some a) (Some b) = Some (a ++ b)
 and_more (Some a) None = None
 and_more None b = None
 
--- the octets of parts 1 to n, one behind the other, where each is there
+-- the octets of parts 1 to n, one behind the other, if each is there
 abbrev pub octets_joined : (ℕ → Option (List ℕ)) → ℕ → Option (List ℕ)
 octets_joined part zero = Some []
 octets_joined part (suc n) = and_more (octets_joined part n) (part (suc n))

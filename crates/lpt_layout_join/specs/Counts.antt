@@ -12,13 +12,13 @@ count_seen r (Err e) = None
 count_seen r (Ok IdlePacket) = None
 count_seen r (Ok (APacket f)) = if f.apid == r.apid then Some f.count else None
 
--- the same of octets, where packets have no checksum; by another layout none is looked at
+-- the same of octets, if packets have no checksum; by another layout none is looked at
 unfoldable pub count_of : Reading → List ℕ → Option ℕ
 count_of r b =
     if r.layout.has_checksum then None
     else count_seen r (verdict_as r.layout.has_checksum b)
 
--- the last packet of the APID that came, with its count; no octets where none came
+-- the last packet of the APID that came, with its count; no octets if none came
 pub record Latest : Type 0 where
   pub count : ℕ
   pub octets : List ℕ
@@ -26,7 +26,7 @@ pub record Latest : Type 0 where
 abbrev pub no_latest : Latest
 no_latest = record { count = 0; octets = [] }
 
--- how many counts lie between it and a packet of this count: none where it is the same packet again
+-- how many counts lie between it and a packet of this count: none if it is the same packet again
 abbrev pub gap_to : Latest → (count : ℕ) → List ℕ → ℕ
 gap_to l n b =
     if (length l.octets == 0) || bytes_eq l.octets b then 0

@@ -96,7 +96,7 @@ carry r n bs = list_any (λ b. is_some (part_of n (part_carried r b))) bs
 
 -- ---- where a part contradicts those before it
 
--- the part of the name that a piece of a stream carries, where it is a packet that does
+-- the part of the name that a piece of a stream carries, if it is a packet that does
 abbrev pub part_in : Reading → Name → PieceKind → List ℕ → Option Piece
 part_in r n Whole b = part_of n (part_carried r b)
 part_in r n Damaged b = None
@@ -112,12 +112,12 @@ abbrev pub came_by : Came → Option Piece → Came
 came_by c None = c
 came_by c (Some q) = step c 0 q
 
--- a place, where there is one; or the other
+-- a place, if there is one; or the other
 abbrev pub place_or : Option ℕ → Option ℕ → Option ℕ
 place_or (Some at) other = Some at
 place_or None other = other
 
--- the place, where it is one
+-- the place, if it is one
 abbrev pub place_if : Bool → ℕ → Option ℕ
 place_if there at = if there then Some at else None
 

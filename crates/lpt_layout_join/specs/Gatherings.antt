@@ -28,7 +28,7 @@ abbrev pub kept_of : Gatherings → Name → Option Gathering
 kept_of g n = get name_cmp g.kept n
 
 -- it is what the packets give of a transaction of which they carry parts; nothing is kept of one of
--- which they carry none, or where more came than are kept
+-- which they carry none, or if more came than are kept
 abbrev pub IsKept : Reading → Name → List Piece → (more : Bool) → Option Gathering → Type 0
 IsKept r n ps more (Some g) = Gives r n ps g × (carry r n (packets_of ps) ≡ true)
 IsKept r n ps more None = more ≡ false → carry r n (packets_of ps) ≡ false
@@ -44,13 +44,13 @@ IsLone n g =
     (g.has_more ≡ false)
     × ((g.kept.entries ≡ []) ⊎ ((x : Gathering) × (g.kept.entries ≡ (n, x) ∷ [])))
 
--- where one transaction is wanted, no other is kept
+-- if one transaction is wanted, no other is kept
 abbrev pub LoneIs : (wanted : Option Name) → Gatherings → Type 0
 LoneIs None g = Unit {0}
 LoneIs (Some n) g = IsLone n g
 
 -- of each transaction that is wanted, what is kept is what the packets among these pieces give of
--- it; of at most 64, and where more came, of as many; and of no other
+-- it; of at most 64, and if more came, of as many; and of no other
 pub record GivesEach (r : Reading) (wanted : Option Name) (ps : List Piece) (g : Gatherings) :
     Type 0 where
   pub each : (n : Name) → is_wanted wanted n ≡ true → IsKept r n ps g.has_more (kept_of g n)

@@ -1,4 +1,4 @@
--- What becomes of what is kept, where a part is added to what is kept of its transaction.
+-- What becomes of what is kept, if a part is added to what is kept of its transaction.
 use Rattle.std.specs.Prelude.{◌≡◌, ℕ, Bool, true, false, List, [], ◌∷◌, ◌++◌, length, Some, None}
 use Rattle.lpt_carried.specs.declared.name.Name.{Name}
 use Rattle.lpt_carried.specs.declared.reading.Reading.{Reading}
@@ -21,7 +21,7 @@ Gains n missing place q old new =
     → part_of n (part_carried r b) ≡ Some q
     → Gives r n (ps ++ record { kind = Whole; octets = b } ∷ []) new
 
--- it is kept where that was
+-- it is kept if that was
 pub record IsAdded (n : Name) (missing place : ℕ) (q : part.Piece) (old new : Gatherings) :
     Type 0 where
   pub was : Gathering
@@ -33,7 +33,7 @@ pub record IsAdded (n : Name) (missing place : ℕ) (q : part.Piece) (old new : 
   pub size : length new.kept.entries ≡ length old.kept.entries
   pub more : new.has_more ≡ old.has_more
 
--- it is, where something was kept of the transaction; else nothing has changed
+-- it is, if something was kept of the transaction; else nothing has changed
 abbrev pub IsAddedTo :
     Name → (missing place : ℕ) → part.Piece → (old new : Gatherings) → (kept : Bool) → Type 0
 IsAddedTo n missing place q old new true = IsAdded n missing place q old new

@@ -29,7 +29,7 @@ pub record CarriesOne (r : Reading) (n : Name) (p : ℕ) (m b : List ℕ) : Type
   pub within : number ≤ part_count (length m) p
   pub carries : part_carried r b ≡ Ok (part_named n p m number)
 
--- a packet carries no part, or, where one transaction was asked for, one of another
+-- a packet carries no part, or, if one transaction was asked for, one of another
 abbrev pub is_other : (asked : Option Name) → Result Named Skip → Bool
 is_other asked (Err e) = true
 is_other None (Ok c) = false

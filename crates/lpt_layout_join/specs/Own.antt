@@ -23,7 +23,7 @@ abbrev pub misfit_as : Misfit → MisfitAs
 misfit_as (misfit.NoPacket e) = NoPacket e
 misfit_as misfit.OtherKind = OtherKind
 
--- the message that parts are joined to, where they are
+-- the message that parts are joined to, if they are
 abbrev pub message_in : Joined → Option (List ℕ)
 message_in (Missing s) = None
 message_in (Complete m) = Some m

@@ -8,7 +8,7 @@ use Rattle.lpt_layout_join.specs.Came.{count_to}
 abbrev pub is_within : (len : ℕ) → Span → Bool
 is_within len s = nat_le s.start s.end && nat_le s.end len
 
--- those that stand there, where they do
+-- those that stand there, if they do
 abbrev pub octets_at : List ℕ → Option Span → Option (List ℕ)
 octets_at xs None = None
 octets_at xs (Some s) =
@@ -18,7 +18,7 @@ octets_at xs (Some s) =
 abbrev pub span_in : List (Option Span) → ℕ → Option Span
 span_in spans i = slice_index_or spans i None
 
--- the octets at a place; none where the part hasn't come
+-- the octets at a place; none if the part hasn't come
 abbrev pub at : Slots → ℕ → Option (List ℕ)
 at s i = octets_at s.octets.items (span_in s.spans.items i)
 

@@ -31,26 +31,26 @@ use Rattle.lpt_layout_join.specs.Gatherings.{GivesEach, IsOnly, NoneIsOnly}
 
 -- ---- what is fit
 
--- why a packet of this type is none of the direction, where it isn't
+-- why a packet of this type is none of the direction, if it isn't
 abbrev pub kind_misfit : Direction → PacketKind → Option MisfitAs
 kind_misfit d kind = if is_kind (kind_to d) kind then None else Some OtherKind
 
--- why what is seen as this is no packet of the direction, where it isn't
+-- why what is seen as this is no packet of the direction, if it isn't
 abbrev pub sight_misfit : Reading → Result Sight PacketFault → Option MisfitAs
 sight_misfit r (Err e) = Some (NoPacket e)
 sight_misfit r (Ok IdlePacket) = Some OtherKind
 sight_misfit r (Ok (APacket f)) = kind_misfit r.direction f.kind
 
--- why octets are no packet of the layout and the direction, where they aren't
+-- why octets are no packet of the layout and the direction, if they aren't
 abbrev pub misfit : Reading → List ℕ → Option MisfitAs
 misfit r m = sight_misfit r (verdict_as r.layout.has_checksum m)
 
--- or, where packets have no checksum that tells a mixture, that they may be joined of parts of
+-- or, if packets have no checksum that tells a mixture, that they may be joined of parts of
 -- several: unless it is sure that they aren't
 abbrev pub unsure : Reading → (sure : Bool) → Option MisfitAs
 unsure r sure = if r.layout.has_checksum || sure then None else Some Unsure
 
--- the same, where not any octets are taken
+-- the same, if not any octets are taken
 abbrev pub unfit : Reading → (any sure : Bool) → List ℕ → Option MisfitAs
 unfit r any sure m = if any then None else option_or (misfit r m) (unsure r sure)
 
@@ -66,7 +66,7 @@ abbrev pub end_missing : (broken : Bool) → JoinEnd
 end_missing false = Missing
 end_missing true = BrokenOff
 
--- how it ends, where the message is whole, and where it isn't
+-- how it ends, if the message is whole, and if it isn't
 abbrev pub end_by : Reading → (any sure broken : Bool) → Option (List ℕ) → JoinEnd
 end_by r any sure broken (Some m) = end_whole m (unfit r any sure m)
 end_by r any sure broken None = end_missing broken
@@ -75,7 +75,7 @@ end_by r any sure broken None = end_missing broken
 abbrev pub end_of : Reading → (any : Bool) → Gathered → JoinEnd
 end_of r any g = end_by r any g.sure (is_some g.came.against) (message_of g.came.parts)
 
--- the message is written, where it ends so, and else nothing
+-- the message is written, if it ends so, and else nothing
 abbrev pub WritesEnd : JoinEnd → (m : Option (List ℕ)) → (old new : Option (List ℕ)) → Type 0
 WritesEnd (Written n) (Some m) old new = Appends old new m
 WritesEnd (Written n) None old new = ⊥

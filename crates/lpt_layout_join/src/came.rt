@@ -37,7 +37,7 @@ impl CameAs {
     ghost use Rattle.lpt_layout_join.specs.Came.{Came, nothing_came, are_of, count_in, has_part, highest, is_against, last_of, message_of, octets_of, size_of, step};
     ghost use Rattle.lpt_layout_join.specs.CameInside.{Shows, highest_in, last_in, part_at};
 
-    /// Nothing has come.
+    /// What came of a transaction of which nothing has come yet.
     pub fn new(alloc: Global) -> CameAs
         ensures { Shows nothing_came result }
     {

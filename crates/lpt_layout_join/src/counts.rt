@@ -11,7 +11,7 @@ use std::alloc::{AllocError, Global};
 /// without a checksum; by another one none are counted.
 #[derive(Drop)]
 pub struct Counts {
-    // The last packet of the APID, and its count; no octets where none came.
+    // The last packet of the APID, and its count; no octets if none came.
     count: u16,
     octets: Vec<u8>,
     // More than 2^64 - 1 are counted as that.
@@ -24,7 +24,7 @@ impl Counts {
     ghost use Rattle.lpt_layout_join.specs.Counts.{packet_counted, nothing_counted};
     ghost use Rattle.lpt_layout_join.specs.CountsInside.{counts_shown};
 
-    /// Nothing came.
+    /// Counts of a stream of which nothing came yet.
     pub fn new(alloc: Global) -> Counts
         ensures { counts_shown result ≡ nothing_counted }
     {
@@ -61,7 +61,7 @@ impl Counts {
     }
 }
 
-// The sequence count of a packet of the APID, where packets have no checksum.
+// The sequence count of a packet of the APID, if packets have no checksum.
 #[tactic(auto, unfolding(crate::specs::Counts::count_of))]
 fn count_of(reading: &Reading, octets: &[u8]) -> Option<u16>
     ensures exact { result ≡ count_of reading.now octets.now }

@@ -37,7 +37,7 @@ fn gap_from(came: &PartNumbers, from: u32, last: u32) -> Option<(u32, u32)>
     Some((start, end - 1))
 }
 
-// The first number from `from` on of which a part came, or didn't; one more than `last` where there
+// The first number from `from` on of which a part came, or didn't; one more than `last` if there
 // is none up to that.
 fn first_from(came: &PartNumbers, wanted: bool, from: u32, last: u32) -> u32
     requires last { last ≤ 65542 }

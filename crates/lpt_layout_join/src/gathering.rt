@@ -38,7 +38,7 @@ pub struct Gathering {
 impl Gathering {
     ghost use Rattle.lpt_layout_join.specs.Gatherings.{Gives};
 
-    /// Nothing has come.
+    /// What is kept of a transaction of which nothing has come yet.
     pub fn new(alloc: Global) -> Gathering
         ensures { (r : Reading) (n : Name) → Gives r n [] result }
     {
@@ -76,7 +76,7 @@ impl Gathering {
     }
 }
 
-// With a part of this number; one that contradicts those that came ends it.
+// The order with a part of this number; one that contradicts those that came ends it.
 fn order_with(order: Order, is_against: bool, number: u32, missing: u64) -> Order
     ensures { result ≡ order_by order is_against number missing }
 {
@@ -87,7 +87,7 @@ fn order_with(order: Order, is_against: bool, number: u32, missing: u64) -> Orde
     }
 }
 
-// The place that was found before, or this one where it is one.
+// The place that was found before, or this one if it is one.
 fn first_of(found: Option<u64>, is_here: bool, place: u64) -> Option<u64>
     ensures { result ≡ place_or found (place_if is_here place) }
 {

@@ -34,7 +34,7 @@ impl Gatherings {
     ghost use Rattle.lpt_layout_join.specs.Gatherings.{GivesEach, is_wanted, kept_of};
     ghost use Rattle.lpt_layout_join.specs.GatheringsInside.{IsAddedTo};
 
-    /// Nothing has come.
+    /// What is kept before anything has come.
     pub fn new(alloc: Global) -> Gatherings
         ensures { (r : Reading) (w : Option Name) → GivesEach r w [] result }
     {
@@ -79,7 +79,7 @@ impl Gatherings {
         Ok(())
     }
 
-    // Adds a part to what is kept of its transaction, where something is, and says whether it is.
+    // Adds a part to what is kept of its transaction, if something is, and says whether it is.
     // The only error is out of memory.
     fn add_to_kept(
         &mut self,

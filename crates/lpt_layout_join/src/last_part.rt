@@ -41,7 +41,7 @@ pub(crate) fn size_told(part: &PartAs<'_>) -> Option<usize>
     }
 }
 
-// The last part, where this is it.
+// The last part, if this is it.
 pub(crate) fn last_told(part: &PartAs<'_>) -> Option<LastPart>
     requires { length part.now.octets.now ≤ longest_packet }
     ensures last { result ≡ last_told (piece part.now) }

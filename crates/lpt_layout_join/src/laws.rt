@@ -68,9 +68,9 @@ pub fn split_is_written()
         → Reports w any ps j old new → Appends old new m }
 {}
 
-/// Of whatever packets: what is written of a layout without a checksum, but with `any`, is joined
-/// of parts that stand in the order of their numbers, and between each of them and the next fewer
-/// sequence counts of the APID are missing than its number.
+/// Whatever the packets are, what is written of a layout without a checksum, but with `any`, is
+/// joined of parts that stand in the order of their numbers, and between each of them and the next
+/// fewer sequence counts of the APID are missing than its number.
 pub fn written_is_in_order()
     ensures { (r : Reading) (n : Name) (bs : List (List ℕ)) (len : ℕ) (m : List ℕ)
         → r.layout.has_checksum ≡ false
@@ -78,8 +78,8 @@ pub fn written_is_in_order()
         → message_of (parts_gathered r n bs).came.parts ≡ Some m → IsInOrder r n bs m }
 {}
 
-/// Of whatever packets: the octets that are joined of each part have the one length that is told,
-/// but for the last part's.
+/// Whatever the packets are, the octets that are joined of each part have the one length that is
+/// told, but for the last part's.
 pub fn parts_are_even()
     ensures { (r : Reading) (n : Name) (bs : List (List ℕ)) (k : ℕ) (x : List ℕ)
         → octets_of (parts_gathered r n bs).came.parts k ≡ Some x

@@ -1,4 +1,4 @@
-//! If nothing is written.
+//! A sink of which nothing is kept.
 
 use lpt_text::Sink;
 

@@ -18,7 +18,7 @@ pub struct Order {
 }
 
 impl Order {
-    /// None came.
+    /// The order of a name of which no part came.
     pub fn none() -> Order
         ensures { result ≡ no_order }
     {
@@ -29,7 +29,7 @@ impl Order {
         }
     }
 
-    /// With a part of this number, up to which so many counts are missing.
+    /// The order with a part of this number, up to which so many counts are missing.
     pub fn with(self, number: u32, missing: u64) -> Order
         ensures { result ≡ order_after self number missing }
     {

@@ -22,7 +22,7 @@ impl PartNumbers {
     ghost use Rattle.lpt_join.specs.Laws.{IsHighest};
     ghost use Rattle.lpt_layout_join.specs.PartNumbersInside.{has, is_ended};
 
-    /// No part came.
+    /// The numbers of a message of which no part came.
     pub fn new(alloc: Global) -> PartNumbers
         ensures none { (n : ℕ) → has result n ≡ false }
         ensures ended { is_ended result ≡ false }

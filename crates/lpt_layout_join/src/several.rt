@@ -55,7 +55,7 @@ pub fn gather_stream<S: Source>(
         }
         Err(StreamFault::Read) => Err(StreamFault::Read),
         Err(StreamFault::Memory) => Err(StreamFault::Memory),
-        // None ever fails so.
+        // No write to it ever fails.
         Err(StreamFault::Write) => Err(StreamFault::Memory),
     }
 }
@@ -123,7 +123,7 @@ impl Findings {
     }
 }
 
-// The part that a packet carries, where that is wanted.
+// The part that a packet carries, if that is wanted.
 fn wanted_part<'a>(wanted: &Wanted, octets: &'a [u8]) -> Option<CarriedPart<'a>>
     requires { IsSealedBy (cut wanted.now.reading) Whole octets.now }
     ensures carried { IfSome result

@@ -87,7 +87,7 @@ impl Slots {
         })
     }
 
-    // The octets at a place, where a part came.
+    // The octets at a place, if a part came.
     pub(crate) fn part_at(&self, place: usize) -> Option<&[u8]>
         ensures some { IfSome result (λ o. at self.now place ≡ Some o.now) }
         ensures none { result ≡ None → at self.now place ≡ None }
@@ -105,7 +105,7 @@ impl Slots {
         self.part_at(place).is_some()
     }
 
-    // The octets of parts 1 to `total`, where each came. The only error is out of memory.
+    // The octets of parts 1 to `total`, if each came. The only error is out of memory.
     pub(crate) fn joined(&self, alloc: Global, total: usize) -> Result<Option<Octets>, AllocError>
         ensures { IfOk result (λ m. m ≡ octets_joined (λ n. at self.now (n - 1)) total) }
     {
@@ -159,7 +159,7 @@ impl Slots {
     }
 }
 
-// The octets that stand there, where there are so many.
+// The octets that stand there, if there are so many.
 fn octets_at(octets: &[u8], span: Span) -> Option<&[u8]>
     ensures some { IfSome result (λ o. octets_at octets.now (Some span) ≡ Some o.now) }
     ensures none { result ≡ None → octets_at octets.now (Some span) ≡ None }

@@ -20,12 +20,12 @@ use lpt_text::{Sink, Source, StreamFault, write_out};
 use std::alloc::{AllocError, Global};
 
 /// Reads a stream of packets to its end, and writes the message of the transaction that is wanted,
-/// or of the only one of which parts came. If the parts are joined to none, nothing is written,
-/// and neither if what they are joined to is no packet of the layout and the direction, unless
-/// `any` octets are taken. Nor is it, without `any`, by a layout without a checksum, unless the
-/// parts came in their order, and between each of them and the next fewer sequence counts of the
-/// APID are missing than the number of it. The answer says what is kept of each transaction, and
-/// what was passed over.
+/// or of the only one of which parts came. Nothing is written if the parts are joined to no
+/// message. Unless `any` octets are taken, nothing is written either if what they are joined to is
+/// no packet of the layout and the direction, or if the layout has no checksum, and the parts
+/// didn't come in their order, or between one of them and the next no fewer sequence counts of the
+/// APID are missing than the number of the first of these. The answer says what is kept of each
+/// transaction, and what was passed over.
 ///
 /// Errors: `Read` if a read failed, or if 2^64 - 1 pieces came; `Write` if a write failed,
 /// behind a front part of the message; `Memory`.
@@ -69,7 +69,7 @@ pub fn join_as<S: Source, K: Sink>(
     }
 }
 
-// Writes the message of the transaction that is wanted, or of the only one, where it is whole.
+// Writes the message of the transaction that is wanted, or of the only one, if it is whole.
 fn write_chosen<K: Sink>(
     alloc: Global,
     wanted: &Wanted,
@@ -102,7 +102,7 @@ fn write_chosen<K: Sink>(
     }
 }
 
-// What is kept of the transaction of this name, or of the only one, where there is only one.
+// What is kept of the transaction of this name, or of the only one, if there is only one.
 fn chosen_gathering(gatherings: &Gatherings, name: Option<Name>) -> Option<&Gathering>
     ensures some { IfSome result (λ g. IsChosen gatherings.now name g.now) }
     ensures none { result ≡ None → NoneIsChosen gatherings.now name }
@@ -113,7 +113,7 @@ fn chosen_gathering(gatherings: &Gatherings, name: Option<Name>) -> Option<&Gath
     }
 }
 
-// What is kept of the only transaction, where there is only one.
+// What is kept of the only transaction, if there is only one.
 fn only(gatherings: &Gatherings) -> Option<&Gathering>
     ensures some { IfSome result (λ g. (n : Name) × IsOnly gatherings.now n g.now) }
     ensures none { result ≡ None → NoneIsOnly gatherings.now }
@@ -127,7 +127,7 @@ fn only(gatherings: &Gatherings) -> Option<&Gathering>
     }
 }
 
-// Writes the message of a transaction, where it is whole and fit to be written.
+// Writes the message of a transaction, if it is whole and fit to be written.
 fn write_gathering<K: Sink>(
     alloc: Global,
     reading: &Reading,
@@ -151,7 +151,7 @@ fn write_gathering<K: Sink>(
     }
 }
 
-/// How the join of a transaction ends of which this is kept, if its message is written if it is
+/// How the join of a transaction ends of which this is kept: its message counts as written if it is
 /// whole and fit. The only error is out of memory.
 pub fn end_of(
     alloc: Global,
@@ -209,8 +209,9 @@ fn write_message<K: Sink>(
     Ok(JoinEnd::Written(message.len()))
 }
 
-/// Why octets are no packet of the layout and the direction, if they aren't, and not any are
-/// taken; or that this isn't sure, if packets have no checksum.
+/// Why octets aren't written, if they aren't, unless `any` octets are taken: they are no packet of
+/// the layout and the direction; or packets have no checksum, and it isn't sure that they are one
+/// message.
 pub fn unfit(reading: &Reading, any: bool, sure: bool, octets: &[u8]) -> Option<MisfitAs>
     ensures { result ≡ unfit reading.now any sure octets.now }
 {
@@ -220,7 +221,7 @@ pub fn unfit(reading: &Reading, any: bool, sure: bool, octets: &[u8]) -> Option<
     misfit(reading, octets).or(unsure(reading, sure))
 }
 
-// Why octets are no packet of the layout and the direction, where they aren't.
+// Why octets are no packet of the layout and the direction, if they aren't.
 fn misfit(reading: &Reading, octets: &[u8]) -> Option<MisfitAs>
     ensures { result ≡ misfit reading.now octets.now }
 {
@@ -231,7 +232,7 @@ fn misfit(reading: &Reading, octets: &[u8]) -> Option<MisfitAs>
     }
 }
 
-// That octets may be joined of parts of several messages, where nothing tells.
+// That octets may be joined of parts of several messages, if nothing tells.
 fn unsure(reading: &Reading, sure: bool) -> Option<MisfitAs>
     ensures { result ≡ unsure reading.now sure }
 {
@@ -241,7 +242,7 @@ fn unsure(reading: &Reading, sure: bool) -> Option<MisfitAs>
     Some(MisfitAs::Unsure)
 }
 
-// Why a packet of this type is none of the direction, where it isn't.
+// Why a packet of this type is none of the direction, if it isn't.
 fn kind_misfit(direction: Direction, kind: PacketKind) -> Option<MisfitAs>
     ensures { result ≡ kind_misfit direction kind }
 {

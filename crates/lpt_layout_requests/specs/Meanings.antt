@@ -7,7 +7,7 @@ use Rattle.lpt_requests.specs.declared.request.Request.{Request}
 use Rattle.lpt_requests.specs.declared.request.Request.TheVariants.{Load, Dump, Check}
 use Rattle.lpt_requests.specs.Requests.{as_range, request_text, subtype_of}
 
--- what is meant in memories of these sizes is that request, where it is within them
+-- what is meant in memories of these sizes is that request, if it is within them
 abbrev pub IsMeant : (Sizes → Meaning) → Request → Type 0
 IsMeant meant (Load memory areas) =
     (sizes : Sizes) (size : ℕ) → size_of memory sizes ≡ Some size → AreasFit size areas.items

@@ -18,7 +18,7 @@ use Rattle.lpt_layout_requests.specs.declared.fault.RequestFault.TheVariants.{Of
 
 -- ---- what a packet says
 
--- a source, where a field of this width is for it
+-- a source, if a field of this width is for it
 abbrev pub source_in : Width → ℕ → ℕ
 source_in Absent source = 0
 source_in _ source = source
@@ -64,7 +64,7 @@ pub record IsMade (l : Layout) (apid source count flags : ℕ) (r : Request) : T
   pub fits : Fits l apid source count flags r
   pub short : length (packet_as l apid source count flags r) ≤ longest_packet
 
--- this is the fault, where there is one; otherwise memory ran out
+-- this is the fault, if there is one; otherwise memory ran out
 abbrev pub IsFault : Option MemoryFault → MemoryFault → Type 0
 IsFault (Some f) e = e ≡ f
 IsFault None e = e ≡ Memory

@@ -19,7 +19,8 @@ use std::alloc::Global;
 /// The packets of requests, as `write_request_as` makes them, in their order. The sequence counts
 /// go on from the first one, and from 16,383 to 0.
 ///
-/// Errors: that of the first request that can't be written, as there; `Memory`.
+/// Errors: that of the first request that can't be written, as `write_request_as` gives it;
+/// `Memory`.
 pub fn write_requests_as(
     alloc: Global,
     layout: &Layout,
@@ -38,7 +39,7 @@ pub fn write_requests_as(
     // What stands in their bodies means those requests, in memories where they fit.
     ensures means { OnOk result (AllByRecursion BodyMeans requests.now) }
 
-    // The fault is the first, where memory doesn't run out before.
+    // The fault is the first, if memory doesn't run out before.
     ensures fault { IfErr result (λ e. (e ≡ OfRequest Memory)
         ⊎ FirstFault layout.now apid source count flags requests.now e) }
 {

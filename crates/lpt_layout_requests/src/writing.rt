@@ -93,7 +93,7 @@ fn put_as(
     write_tc_as(alloc, layout, &message)
 }
 
-// A source, where a field of this width is for it.
+// A source, if a field of this width is for it.
 fn source_in(width: Width, source: u32) -> u32
     ensures { result ≡ source_in width source }
 {

@@ -81,8 +81,8 @@ epoch_1958 = 21184
 abbrev pub epoch_of : TimeCode → ℕ
 epoch_of c = unwrap_or c.epoch epoch_1958
 
--- the same where the octet of its preamble field says so: since 1958, where no other epoch is
--- given, or since the agency's, where that is given
+-- the same if the octet of its preamble field says so: since 1958, if no other epoch is
+-- given, or since the agency's, if that is given
 abbrev pub epoch_by : TimeCode → (octet : ℕ) → Option ℕ
 epoch_by c x =
     if x == preamble_of c.fields false

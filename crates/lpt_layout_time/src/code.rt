@@ -28,7 +28,7 @@ pub enum TimeFields {
     },
     /// Days, milliseconds of the day in 32 bits, and parts of one: the day segmented code, CDS.
     DaySegmented {
-        /// Whether days have 24 bits, or else 16.
+        /// Whether days have 24 bits, and not 16.
         long: bool,
         /// What stands behind the milliseconds.
         submillisecond: Submillisecond,

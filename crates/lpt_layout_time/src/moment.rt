@@ -26,7 +26,7 @@ pub(crate) struct Moment {
     pub fraction: u64,
 }
 
-// The moment that octets say, where they are as many as the code has, where the preamble says so
+// The moment that octets say, if they are as many as the code has, if the preamble says so
 // too, and up to the year 9999.
 pub(crate) fn moment_in(code: &TimeCode, octets: &[u8]) -> Option<Moment>
     ensures value { result ≡ moment_in code.now octets.now }

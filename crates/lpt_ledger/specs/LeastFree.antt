@@ -18,7 +18,7 @@ pub record IsFirstFree (m : Marks) (source : ℕ) (name : Name) : Type 0 where
   pub free : state_at m name ≡ Free
   pub none_before : (i : ℕ) → i < name.id → state_at m (named_by source i) ≢ Free
 
--- this is the least free name of a source; there is none exactly where none of its names is free
+-- this is the least free name of a source; there is none exactly if none of its names is free
 abbrev pub IsLeastFree : Marks → (source : ℕ) → Option Name → Type 0
 IsLeastFree m source None = (i : ℕ) → i < name_count → state_at m (named_by source i) ≢ Free
 IsLeastFree m source (Some name) = IsFirstFree m source name

@@ -56,7 +56,7 @@ abbrev pub mark_at : List (Name × Page) → Name → Option Mark
 mark_at es name = mark_on (page_in es (page_first name)) (name.id % 64)
 
 -- pages in which one stands in place of another, that gives the name at a place this state, and has
--- the marks of the other names; where none of the other one's names was free, none is
+-- the marks of the other names; if none of the other one's names was free, none is
 pub record IsChanged (es fs : List (Name × Page)) (first : Name) (place : ℕ) (s : State) : Type 0
   where
     pub page : Page
@@ -96,7 +96,7 @@ marks es = map.from_entries (marks_over (names_on es) (mark_at es))
 
 -- ---- which pages are full
 
--- the word of the 64 pages that begin with a name; where there is none, no bit is set
+-- the word of the 64 pages that begin with a name; if there is none, no bit is set
 abbrev pub word_in : List (Name × ℕ) → Name → ℕ
 word_in ws first = unwrap_or (lookup (is_at (name_cmp first)) ws) 0
 
@@ -112,7 +112,7 @@ full_bit ws name = bit_at (word_in ws (word_first name)) (name.id / 64 % 64)
 abbrev pub ArePaged : List (Name × Page) → Type 0
 ArePaged es = (q : Name) → is_some (page_in es q) ≡ true → page_first q ≡ q
 
--- a page has its bit set only where none of its names is free
+-- a page has its bit set only if none of its names is free
 abbrev pub Tells : List (Name × Page) → List (Name × ℕ) → Type 0
 Tells es ws = (q : Name) → full_bit ws q ≡ 1 → is_some (mark_at es q) ≡ true
 

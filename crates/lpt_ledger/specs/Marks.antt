@@ -33,7 +33,7 @@ Marks = map.FinMap name_cmp Mark
 abbrev pub coded_marks : Coded Marks
 coded_marks = map.code coded_name coded_mark
 
--- shut where there is a mark
+-- shut if there is a mark
 abbrev pub shut_mark : Option Mark → Option Mark
 shut_mark None = None
 shut_mark (Some x) = Some Shut

@@ -1,4 +1,4 @@
--- Why a name of this state can't be changed as asked; none where it can.
+-- Why a name of this state can't be changed as asked; none if it can.
 use Rattle.std.specs.Prelude.{◌≡◌, Option, Some, None}
 use Rattle.lpt_ledger.specs.declared.state.State.{State}
 use Rattle.lpt_ledger.specs.declared.state.State.TheVariants.{Free, Open, Closed}
@@ -29,7 +29,7 @@ refusal_retire Free = Some NotOpen
 refusal_retire Open = Some StillOpen
 refusal_retire Closed = None
 
--- a call that takes memory is refused for the state, or for out of memory where that allows it
+-- a call that takes memory is refused for the state, or for out of memory if that allows it
 abbrev pub RefusedBy : Option LedgerFault → LedgerFault → Type 0
 RefusedBy (Some first) e = e ≡ first
 RefusedBy None e = e ≡ Memory

@@ -68,7 +68,7 @@ has_name r = nat_le r.first r.last
 abbrev pub is_behind : NameRun → NameRun → Bool
 is_behind r s = nat_lt r.source s.source || ((r.source == s.source) && nat_lt (r.last + 1) s.first)
 
--- whether a run stands behind the one before it, where there is one
+-- whether a run stands behind the one before it, if there is one
 abbrev pub stands : Option NameRun → NameRun → Bool
 stands None r = true
 stands (Some p) r = is_behind p r

@@ -38,7 +38,7 @@ pub record IsAtPlace (place : ℕ) (first : Name) (es : List (Name × Page)) : T
   pub begins : IsFirst first
   pub behind : AllFirst es
 
--- the name ahead, where one is, and those behind it, as runs
+-- the name ahead, if one is, and those behind it, as runs
 abbrev pub runs_left : Option Name → List Name → List NameRun
 runs_left None ns = []
 runs_left (Some n) ns = runs_of_names (n ∷ ns)

@@ -22,7 +22,7 @@ is_free Free = true
 is_free Open = false
 is_free Closed = false
 
--- closed where it was open, else as it was
+-- closed if it was open, else as it was
 abbrev pub closed_state : State → State
 closed_state Free = Free
 closed_state Open = Closed

@@ -81,8 +81,8 @@ pub(crate) fn put_bit(words: &mut Words, name: Name, is_full: bool)
     }
 }
 
-// Puts a word in its place, or takes its place out where no bit is set. The only error is out of
-// memory, which comes only where there was no place.
+// Puts a word in its place, or takes its place out if no bit is set. The only error is out of
+// memory, which comes only if there was no place.
 fn put_word(words: &mut Words, first: Name, word: u64) -> Result<(), AllocError>
     ensures ok { OnOk result ((q : Name) → word_in words.new.entries q
         ≡ cond (is_at (name_cmp first) q) word (word_in words.old.entries q)) }

@@ -26,9 +26,9 @@ const WORDS: u16 = 16;
 #[derive(Drop)]
 pub struct Ledger {
     // The pages of the names that aren't free, by their first names. A page has a place in memory
-    // where one of its names isn't free.
+    // if one of its names isn't free.
     pub(crate) pages: BTreeMap<Name, Page>,
-    // A bit for each page, which is set only where none of its names is free.
+    // A bit for each page, which is set only if none of its names is free.
     full: Words,
 }
 
@@ -202,8 +202,8 @@ impl Ledger {
         self.put(name, state)
     }
 
-    // Sets the state of a name where its page can be changed where it stands. Says whether it did;
-    // else nothing has changed.
+    // Sets the state of a name if its page can be changed where it stands. Says whether it did; if
+    // not, nothing has changed.
     fn change(&mut self, name: Name, state: State) -> bool
         ensures done { IsTrue result → self.new ≡ with_state self.old name state }
         ensures not_done { result ≡ false → self.new ≡ self.old }
@@ -229,7 +229,7 @@ impl Ledger {
     }
 }
 
-// The page that begins with a name; where there is none, one of which all are free.
+// The page that begins with a name; if there is none, one of which all are free.
 fn page_of(pages: &BTreeMap<Name, Page>, first: Name) -> Page
     ensures { (b : ℕ) → page_mark result b ≡ mark_on (page_in pages.now.entries first) b }
 {
@@ -240,7 +240,7 @@ fn page_of(pages: &BTreeMap<Name, Page>, first: Name) -> Page
 }
 
 // Gives the name at a place of a page this state where the page stands, with one look at the pages;
-// not where the page has no place or would lose it, nor where it gets full or is full no more. Says
+// not if the page has no place or would lose it, nor if it gets full or is full no more. Says
 // whether it did.
 fn change_page(pages: &mut BTreeMap<Name, Page>, first: Name, place: u32, state: State) -> bool
     requires { place < 64 }
@@ -262,8 +262,8 @@ fn change_page(pages: &mut BTreeMap<Name, Page>, first: Name, place: u32, state:
     }
 }
 
-// Puts a page in its place, or takes its place out where all of it are free. The only error is out
-// of memory, which comes only where there was no page.
+// Puts a page in its place, or takes its place out if all of it are free. The only error is out
+// of memory, which comes only if there was no page.
 fn put_page(pages: &mut BTreeMap<Name, Page>, first: Name, page: Page) -> Result<(), AllocError>
     ensures ok { OnOk result ((q : Name) (b : ℕ) → mark_on (page_in pages.new.entries q) b
         ≡ cond (is_at (name_cmp first) q) (page_mark page b)

@@ -43,7 +43,7 @@ impl<'a> Iterator for Runs<'a> {
 }
 
 impl<'a> Runs<'a> {
-    // The next run, where one is left: the next name, and those that follow it.
+    // The next run, if one is left: the next name, and those that follow it.
     fn next_run(&mut self) -> Option<NameRun>
         ensures some { IfSome result (λ r. self.old ≡ r ∷ self.new) }
         ensures none { IfNone result (self.old ≡ []) }

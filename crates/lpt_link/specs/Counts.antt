@@ -10,11 +10,11 @@ use Rattle.lpt_events.specs.Lanes.{same_direction}
 
 -- ---- one direction
 
--- the number under a name, where it has a place
+-- the number under a name, if it has a place
 abbrev pub found_in : List (Name × ℕ) → Name → Option ℕ
 found_in es name = lookup (is_at (name_cmp name)) es
 
--- the number under a name, and 0 where it has no place
+-- the number under a name, and 0 if it has no place
 abbrev pub number_in : List (Name × ℕ) → Name → ℕ
 number_in es name = option_map_or (λ n. n) (found_in es name) 0
 
@@ -63,7 +63,7 @@ SameCounts old new =
     (direction : Direction) (name : Name) → count_of new direction name
     ≡ count_of old direction name
 
--- 1 where a tag is the transaction's, and else 0
+-- 1 if a tag is the transaction's, and else 0
 abbrev pub one_of : Direction → Option Name → Direction → Name → ℕ
 one_of goes tag direction name =
     cond (same_direction goes direction && option_eq same_name tag (Some name)) 1 0

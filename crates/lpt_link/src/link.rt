@@ -260,7 +260,7 @@ impl Link {
     }
 
     // Makes the place of a transaction, if there is one. The only error is out of memory, which comes
-    // only where it has none.
+    // only if it has none.
     fn place(&mut self, direction: Direction, tag: Option<Name>) -> Result<(), AllocError>
         ensures place { OnOk result (IfSome tag (HasPlace self.new.places direction)) }
         ensures there { IfSome tag (HasPlace self.old.places direction) → IsOk result }

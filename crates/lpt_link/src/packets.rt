@@ -119,7 +119,7 @@ impl Packets {
         self.apart.reserve(n)
     }
 
-    // Adds a packet. The only error is out of memory, with its octets, which never comes where there
+    // Adds a packet. The only error is out of memory, with its octets, which never comes if there
     // is room.
     pub(crate) fn push(&mut self, packet: LinkPacket) -> Result<(), Octets>
         ensures ok { OnOk result (self.new.items ≡ self.old.items ++ packet ∷ []) }
@@ -169,8 +169,8 @@ fn octets_in<'a>(octets: &'a [u8], apart: &'a [Octets], place: Place) -> &'a [u8
     }
 }
 
-// Puts the octets of a packet behind those of the others, or apart where there is no room. The only
-// error is out of memory, with the octets; it never comes where there is room apart.
+// Puts the octets of a packet behind those of the others, or apart if there is no room. The only
+// error is out of memory, with the octets; it never comes if there is room apart.
 fn put_octets(all: &mut Vec<u8>, apart: &mut Vec<Octets>, octets: Octets) -> Result<Place, Octets>
     ensures there { IfOk result (IsThere all.new.items apart.new.items) }
     ensures reads { IfOk result (λ p. octets_of all.new.items apart.new.items p ≡ octets) }

@@ -47,7 +47,7 @@ impl Tags {
     }
 
     // Makes the place of a transaction's number. The only error is out of memory, which comes only
-    // where there is none. No number changes.
+    // if there is none. No number changes.
     pub(crate) fn make_place(&mut self, direction: Direction, name: Name) -> Result<(), AllocError>
         ensures place { OnOk result (HasPlace self.new direction name) }
         ensures there { HasPlace self.old direction name → IsOk result }
@@ -101,7 +101,7 @@ fn number(counts: &BTreeMap<Name, u64>, name: Name) -> u64
     }
 }
 
-// Makes the place of a name. The only error is out of memory, which comes only where there is none.
+// Makes the place of a name. The only error is out of memory, which comes only if there is none.
 #[inline(always)]
 fn place(counts: &mut BTreeMap<Name, u64>, name: Name) -> Result<(), AllocError>
     ensures place { OnOk result (IsPlaced counts.new.entries name) }
@@ -132,7 +132,7 @@ fn add_one(counts: &mut BTreeMap<Name, u64>, name: Name)
     }
 }
 
-// Takes one away from the number of a name, and its place where none is left.
+// Takes one away from the number of a name, and its place if none is left.
 fn take_one(counts: &mut BTreeMap<Name, u64>, name: Name)
     requires { 1 ≤ number_in counts.old.entries name }
     ensures { IsOneMoreAt name counts.new.entries counts.old.entries }

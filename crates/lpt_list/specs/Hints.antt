@@ -82,7 +82,7 @@ hint_for kind t b =
     else if shows_part (bare t) b then Some Bare
     else None
 
--- the same of a first part, where they are none by their own: another part may have any number
+-- the same of a first part, if they are none by their own: another part may have any number
 abbrev pub hint_unless : PacketKind → Tailored → List ℕ → Option Hint
 hint_unless kind t b =
     if has_first_type kind b then (if shows_part t b then None else hint_for kind t b) else None

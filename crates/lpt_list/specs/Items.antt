@@ -96,7 +96,7 @@ abort_items a =
 abbrev pub request_items : List ℕ → List Item
 request_items digits = Word (codes "report request") (codes "request_id") digits ∷ []
 
--- a failure code, where there is one
+-- a failure code, if there is one
 abbrev pub code_items : Option ℕ → List Item
 code_items None = []
 code_items (Some code) = Number (codes "code") (codes "failure_code") code ∷ []
@@ -106,7 +106,7 @@ abbrev pub report_items : Report → List Item
 report_items r =
     request_items (encode_lower (be r.request.value 4)) ++ code_items r.code
 
--- the areas that a message of the memory service names, where it names any
+-- the areas that a message of the memory service names, if it names any
 abbrev pub areas_said : Option Areas → List Item
 areas_said None = []
 areas_said (Some a) =
@@ -129,7 +129,7 @@ abort_said body = option_map_or abort_items (abort_in body) []
 abbrev pub report_said : ℕ → List ℕ → List Item
 report_said subtype body = option_map_or report_items (report_in subtype body) []
 
--- what telemetry carries that is no part, where that is a report
+-- what telemetry carries that is no part, if that is a report
 abbrev pub telemetry_items : (service subtype : ℕ) → List ℕ → List Item
 telemetry_items service subtype body =
     if service == 1 then report_said subtype body
@@ -156,7 +156,7 @@ header_items b =
 abbrev pub segment_items : List ℕ → List Item
 segment_items b = header_items b ++ flags_items (segment_text (word_at b 2 / 16384))
 
--- a packet without a secondary header: its primary header, where its checksum is right
+-- a packet without a secondary header: its primary header, if its checksum is right
 abbrev pub bare_items : List ℕ → List Item
 bare_items b = if ends_in_checksum b then header_items b else []
 

@@ -82,7 +82,7 @@ tally_with APacket t = t
 tally_with Damaged t = record t { damaged = up_to_limit (t.damaged + 1) }
 tally_with Stray t = record t { stray = up_to_limit (t.stray + 1) }
 
--- what octets of this verdict are that are as many as a header says: a packet, but where a checksum
+-- what octets of this verdict are that are as many as a header says: a packet, unless a checksum
 -- is wrong
 abbrev pub verdict_kind : Result Sight PacketFault → PieceKind
 verdict_kind (Ok s) = APacket
@@ -93,7 +93,7 @@ verdict_kind (Err Segmented) = APacket
 verdict_kind (Err NoSecondary) = APacket
 verdict_kind (Err Checksum) = Damaged
 
--- what a piece of this kind is, where its octets are of this verdict
+-- what a piece of this kind is, if its octets are of this verdict
 abbrev pub kind_judged : PieceKind → Result Sight PacketFault → PieceKind
 kind_judged APacket v = verdict_kind v
 kind_judged Damaged v = Damaged
@@ -110,7 +110,7 @@ tally_behind l t (x ∷ xs) = tally_behind l (tally_with (kind_as l x.kind x.oct
 
 -- ---- a stream
 
--- how a stream of these layouts is cut: by checksums, where all packets have one
+-- how a stream of these layouts is cut: by checksums, if all packets have one
 abbrev pub cut_of : (down up : Bool) → Cut
 cut_of true true = Sealed
 cut_of true false = Framed
@@ -119,7 +119,7 @@ cut_of false up = Framed
 abbrev pub cut_for : Layouts → Cut
 cut_for l = cut_of l.telemetry.packets.has_checksum l.telecommands.packets.has_checksum
 
--- the place of the first piece that is no packet, where a list ends there, with a piece more
+-- the place of the first piece that is no packet, if a list ends there, with a piece more
 abbrev pub stopped_with : (strict : Bool) → ℕ → PieceKind → Option ℕ → Option ℕ
 stopped_with strict place kind (Some n) = Some n
 stopped_with true place APacket None = None
@@ -149,8 +149,8 @@ pub record IsCounted (l : Layouts) (strict : Bool) (from : ℕ) (end : ListEnd) 
   pub ends : end ≡ end_of (stopped_behind l strict from None pieces)
   pub counted : tally ≡ tally_behind l no_tally pieces
 
--- what a list has read, counted and written: all of the stream, or where it is a strict one up to
--- the first piece that is no packet
+-- what a list has read, counted and written: all of the stream, or, in a strict list, the
+-- stream up to the first piece that is no packet
 abbrev pub ListsTo : Form → Layouts → (from : ℕ) → (strict : Bool) → ListEnd → Tally
     → (before after old new : Option (List ℕ)) → Type 0
 ListsTo form l from strict end tally before after old new =

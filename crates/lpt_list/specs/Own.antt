@@ -41,13 +41,13 @@ abbrev pub part_said : ℕ → List ℕ → Kind → List Item
 part_said p body kind =
     option_map_or part_items (part_in p kind body) (unread_items (length body - 4))
 
--- what a telecommand carries, where that is a part or a request that names areas
+-- what a telecommand carries, if that is a part or a request that names areas
 abbrev pub tc_carried : ℕ → Command → List Item
 tc_carried p c =
     option_map_or (part_said p c.body) (carried_kind Up c.service c.subtype)
     (areas_said (areas_in Up c.service c.subtype c.body))
 
--- what telemetry carries, where that is a part or a report
+-- what telemetry carries, if that is a part or a report
 abbrev pub tm_carried : ℕ → Telemetry → List Item
 tm_carried p t =
     option_map_or (part_said p t.body) (carried_kind Down t.service t.subtype)
@@ -55,13 +55,13 @@ tm_carried p t =
 
 -- ---- octets
 
--- what is behind the primary header, where it is read as a telecommand's; or the first test that it
+-- what is behind the primary header, if it is read as a telecommand's; or the first test that it
 -- fails
 abbrev pub tc_said : ℕ → Result Command PusFault → List Item
 tc_said p (Ok c) = tc_items c ++ tc_carried p c
 tc_said p (Err e) = fault_items (of_header.code_of e) (of_header.name_of e)
 
--- what is behind it, where it is read as telemetry's; or the first test that it fails
+-- what is behind it, if it is read as telemetry's; or the first test that it fails
 abbrev pub tm_said : ℕ → Result Telemetry PusFault → List Item
 tm_said p (Ok t) = tm_items t ++ tm_carried p t
 tm_said p (Err e) = fault_items (of_header.code_of e) (of_header.name_of e)

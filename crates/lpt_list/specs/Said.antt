@@ -51,7 +51,7 @@ head_items Tm s =
     ∷ Number (codes "service") (codes "service_type") s.service
     ∷ Number (codes "subtype") (codes "message_subtype") s.subtype ∷ []
 
--- a number, where the layout has one
+-- a number, if the layout has one
 abbrev pub width_items : Width → (word name : List ℕ) → ℕ → List Item
 width_items Absent word name n = []
 width_items Octet word name n = Number word name n ∷ []
@@ -63,7 +63,7 @@ abbrev pub user_items : Width → PacketKind → ℕ → List Item
 user_items w Tc n = width_items w (codes "source") (codes "source_id") n
 user_items w Tm n = width_items w (codes "destination") (codes "destination_id") n
 
--- octets in hexadecimal digits, where there are any
+-- octets in hexadecimal digits, if there are any
 abbrev pub octets_items : List ℕ → List ℕ → List Item
 octets_items word [] = []
 octets_items word (b ∷ bs) = AWord word word (encode_lower (b ∷ bs)) ∷ []
@@ -76,7 +76,7 @@ short_number (a ∷ b ∷ c ∷ []) = Some (65536 * a + (256 * b + c))
 short_number (a ∷ b ∷ c ∷ d ∷ []) = Some (16777216 * a + (65536 * b + (256 * c + d)))
 short_number _ = None
 
--- a date and time of day, where there is one
+-- a date and time of day, if there is one
 abbrev pub date_items : Option (List ℕ) → List Item
 date_items None = []
 date_items (Some text) = AWord (codes "date") (codes "date") text ∷ []
@@ -121,7 +121,7 @@ own_size t b =
 abbrev pub size_for : Tailored → List ℕ → Option ℕ
 size_for t b = size_or t.part_size (own_size t b)
 
--- a part of this size, where there is one
+-- a part of this size, if there is one
 abbrev pub part_of_size : Tailored → Kind → List ℕ → Option ℕ → Option Piece
 part_of_size t kind b None = None
 part_of_size t kind b (Some p) = result_ok (part_verdict_as t.parts kind b p)
@@ -152,7 +152,7 @@ carried_as t kind s =
 abbrev pub message_as : Tailored → PacketKind → Said → List Item
 message_as t kind s = message_items t kind s ++ carried_as t kind s
 
--- what is behind the primary header, where it is read; or the first test that it fails
+-- what is behind the primary header, if it is read; or the first test that it fails
 abbrev pub field_as : Tailored → PacketKind → Result Said PusFault → List Item
 field_as t kind (Ok s) = message_as t kind s
 field_as t kind (Err e) = fault_items (of_header.code_of e) (of_header.name_of e)

@@ -32,7 +32,7 @@ is_read_by l b = is_read_seen l (verdict_as l.has_checksum b)
 abbrev pub is_read_as : Layouts → List ℕ → Bool
 is_read_as l b = is_read_by (layout_in l b).packets b
 
--- one, where it holds
+-- one, if it holds
 abbrev pub one_if : Bool → ℕ
 one_if true = 1
 one_if false = 0

@@ -34,7 +34,7 @@ pub(crate) fn add_areas(
     }
 }
 
-// The same where it names some.
+// The same if it names some.
 fn add_named(text: &mut String, form: Form, areas: &Areas) -> Result<(), AllocError>
     ensures { OnOk result (string_bytes text.new
         ≡ string_bytes text.old ++ items_text form (areas_said (Some areas.now))) }

@@ -30,7 +30,7 @@ pub fn told_in(layouts: &Layouts, octets: &[u8]) -> Told
     told
 }
 
-// How many octets the packet at the front of these has, where one is there whole.
+// How many octets the packet at the front of these has, if one is there whole.
 fn frame_length(near: &[u8]) -> Option<usize>
     ensures found { IfSome result (λ n. (begins_by Framed true near.now ≡ true)
         × (n ≡ 7 + word_at near.now 4) × (n ≤ length near.now)) }

@@ -72,7 +72,7 @@ pub(crate) fn add_message(
     add_octet_fields(alloc, text, form, tailored.time, message)
 }
 
-// Adds its counter, and its source or destination, where there are any.
+// Adds its counter, and its source or destination, if there are any.
 #[tactic(auto, using(crate::proofs::ItemLemmas::behind))]
 fn add_numbers(
     text: &mut String,
@@ -89,7 +89,7 @@ fn add_numbers(
     add_user(text, form, layout.user, kind, message.user)
 }
 
-// Adds its time and its spare octets, where there are any.
+// Adds its time and its spare octets, if there are any.
 #[tactic(auto, using(crate::proofs::ItemLemmas::behind))]
 fn add_octet_fields(
     alloc: Global,
@@ -153,7 +153,7 @@ fn add_status(text: &mut String, form: Form, message: &Message<'_>) -> Result<()
     }
 }
 
-// Adds the source or the destination, where there is one.
+// Adds the source or the destination, if there is one.
 fn add_user(
     text: &mut String,
     form: Form,
@@ -170,7 +170,7 @@ fn add_user(
     }
 }
 
-// Adds a number of this width behind its word, where there is one.
+// Adds a number of this width behind its word, if there is one.
 fn add_width(
     text: &mut String,
     form: Form,
@@ -239,7 +239,7 @@ fn add_dated(
     add_date(alloc, text, form, code, time)
 }
 
-// Adds the date that a time says by its code, where it says one.
+// Adds the date that a time says by its code, if it says one.
 fn add_date(
     alloc: Global,
     text: &mut String,
@@ -280,7 +280,7 @@ fn short_number(octets: &[u8]) -> Option<u32>
     }
 }
 
-// Adds octets behind their word, in hexadecimal digits, where there are any.
+// Adds octets behind their word, in hexadecimal digits, if there are any.
 fn add_octets(
     alloc: Global,
     text: &mut String,

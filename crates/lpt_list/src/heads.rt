@@ -118,7 +118,7 @@ fn add_read(
     add_carried(alloc, text, form, tailored, kind, message)
 }
 
-// Adds the part, the request or the report that it carries, where it carries one.
+// Adds the part, the request or the report that it carries, if it carries one.
 fn add_carried(
     alloc: Global,
     text: &mut String,
@@ -161,7 +161,7 @@ fn add_part(
     }
 }
 
-// Adds the request or the report that a message is which carries no part, where it is one.
+// Adds the request or the report that a message is which carries no part, if it is one.
 fn add_other(
     alloc: Global,
     text: &mut String,

@@ -17,9 +17,9 @@ pub enum ListEnd {
 /// How much of a stream is no packet. A count ends at 2^64 - 1.
 #[derive(Clone, Copy)]
 pub struct Tally {
-    /// So many pieces, each as long as its header says.
+    /// How many pieces are no packet, each as long as its header says.
     pub damaged: u64,
-    /// So many octets besides.
+    /// How many octets besides are no packet.
     pub stray: u64,
 }
 
@@ -32,7 +32,7 @@ pub struct Listed {
     pub tally: Tally,
 }
 
-// With a piece more.
+// The tally with a piece more.
 pub(crate) fn tally_with(tally: Tally, kind: PieceKind) -> Tally
     ensures { result ≡ tally_with kind tally }
 {

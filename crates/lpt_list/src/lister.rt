@@ -28,7 +28,7 @@ pub(crate) struct Lister<'a> {
     // Whether the next octets come right behind a packet.
     in_step: bool,
     tally: Tally,
-    // The place of the first piece that is no packet, where the list ends there.
+    // The place of the first piece that is no packet, if the list ends there.
     stopped: Option<u64>,
 }
 
@@ -119,7 +119,8 @@ impl<'a> Lister<'a> {
         Ok((line, kind_seen(kind, &seen)))
     }
 
-    // What is listed of an octet that is no packet: that none is there, where the first stands.
+    // What is listed of an octet that is no packet: of the first of several, that no packet is
+    // there; of the others nothing.
     fn none_line(&self, alloc: Global, place: u64) -> Result<String, AllocError>
         ensures { IfOk result (λ t. string_bytes t
             ≡ (if self.now.in_step then none_line self.now.form place else [])) }
@@ -181,7 +182,7 @@ impl<'a, K: Sink> Taker<K, ()> for Lister<'a> {
     }
 }
 
-// How a stream of these layouts is cut: by checksums, where all packets have one.
+// How a stream of these layouts is cut: by checksums, if all packets have one.
 fn cut_for(layouts: &Layouts) -> Cut
     ensures { result ≡ cut_for layouts.now }
 {
@@ -192,7 +193,7 @@ fn cut_for(layouts: &Layouts) -> Cut
     }
 }
 
-// The octets of a piece of this kind, read by this layout: where its checksum was taken before, it
+// The octets of a piece of this kind, read by this layout: if its checksum was taken before, it
 // isn't taken again.
 fn read_seen<'a>(
     cut: Cut,
@@ -230,7 +231,7 @@ fn goes_on(kind: PieceKind) -> bool
     }
 }
 
-// The place of the first piece that is no packet, where a list ends there, with a piece more.
+// The place of the first piece that is no packet, if a list ends there, with a piece more.
 fn stopped_with(strict: bool, place: u64, kind: PieceKind, stopped: Option<u64>) -> Option<u64>
     ensures { result ≡ stopped_with strict place kind stopped }
 {

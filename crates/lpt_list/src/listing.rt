@@ -17,8 +17,8 @@ use std::alloc::Global;
 /// each packet in it by the layout of its packet type, and one for each place from which on octets
 /// are no packet. If `strict` is set, it ends behind the first line of what is no packet.
 ///
-/// If packets of both types have a checksum, the next packet is found behind octets that are
-/// none; else the stream is cut by lengths alone. Each line is written as its packet comes, and
+/// If packets of both types have a checksum, the next packet is found behind octets that are none;
+/// otherwise the stream is cut by lengths alone. Each line is written as its packet comes, and
 /// before more is read `out` has passed on what was written.
 ///
 /// Errors: `Read` if a read failed, or if 2^64 - 1 pieces came; `Write` if a write failed;
@@ -42,7 +42,7 @@ pub fn list_stream<P: Peer, K: Sink>(
         (P.remaining source.old) (P.remaining source.new)
         (K.contents out.old) (K.contents out.new)) }
 
-    // Where a read fails, each line is written that what was read before it shows.
+    // If a read fails, each line is written that what was read before it shows.
     ensures settled { result ≡ Err StreamFault.Read
         → ListsAll form layouts.now from (P.remaining source.old) (P.remaining source.new)
         (K.contents out.old) (K.contents out.new)

@@ -15,7 +15,7 @@ use std::alloc::{AllocError, Global};
 /// The service type of request verification (ECSS-E-ST-70-41C).
 const VERIFICATION: u8 = 1;
 
-// Adds what telemetry of this message type carries that is no part, where that is a report.
+// Adds what telemetry of this message type carries that is no part, if that is a report.
 pub(crate) fn add_reported(
     alloc: Global,
     text: &mut String,
@@ -38,7 +38,7 @@ pub(crate) fn add_reported(
     }
 }
 
-// Adds the abortion report that a body is; nothing where it isn't read as one.
+// Adds the abortion report that a body is; nothing if it isn't read as one.
 fn add_abort(text: &mut String, form: Form, body: &[u8]) -> Result<(), AllocError>
     ensures { OnOk result (string_bytes text.new
         ≡ string_bytes text.old ++ items_text form (abort_said body.now)) }
@@ -64,7 +64,7 @@ fn add_reason(text: &mut String, form: Form, id: u16, reason: Reason) -> Result<
     }
 }
 
-// Adds the verification report that a body is; nothing where it isn't read as one.
+// Adds the verification report that a body is; nothing if it isn't read as one.
 fn add_report(
     alloc: Global,
     text: &mut String,
@@ -108,7 +108,7 @@ fn add_request(text: &mut String, form: Form, digits: &str) -> Result<(), AllocE
     }
 }
 
-// Adds a failure code, where there is one.
+// Adds a failure code, if there is one.
 fn add_code(text: &mut String, form: Form, code: Option<u16>) -> Result<(), AllocError>
     ensures { OnOk result (string_bytes text.new
         ≡ string_bytes text.old ++ items_text form (code_items code)) }

@@ -18,11 +18,12 @@ use lpt_packet::{PacketFault, PacketKind};
 /// What was found in packets. A count ends at 2^64 - 1.
 #[derive(Clone, Copy)]
 pub struct Told {
-    /// So many packets fail a test of their layout's packets.
+    /// How many packets fail a test of their layout's packets.
     pub refused: u64,
-    /// So many carry a part that is read.
+    /// How many carry a part that is read.
     pub parts: u64,
-    /// By which other layout the first part would be read that isn't by this one, but by another.
+    /// By which other layout the first part would be read that isn't read by this one, but would be
+    /// by another.
     pub hint: Option<Hint>,
 }
 
@@ -37,7 +38,7 @@ pub(crate) fn nothing_told() -> Told
     }
 }
 
-// With a packet more, or octets that fail a test.
+// What was found, with a packet more, or octets that fail a test.
 pub(crate) fn told_with(told: Told, layouts: &Layouts, octets: &[u8]) -> Told
     requires { SizesFit layouts.now }
     ensures { result ≡ told_with layouts.now octets.now told }

@@ -33,13 +33,13 @@ abbrev pub EndsAt : (stray : Option ℕ) → (place : ℕ) → List ℕ → (aft
 EndsAt None place rest after = (rest ≡ []) × IsAtEnd after
 EndsAt (Some at) place rest after = (at ≡ up_to_limit place) × BeginsNone rest after
 
--- a piece of this kind, where that is a packet
+-- a piece of this kind, if that is a packet
 abbrev pub packet_as : PieceKind → Found → Option Found
 packet_as Whole f = Some f
 packet_as Damaged f = None
 packet_as Stray f = None
 
--- the packet in front, where one is
+-- the packet in front, if one is
 abbrev pub packet_in : (front : Option Found) → Option Found
 packet_in None = None
 packet_in (Some f) = packet_as f.kind f

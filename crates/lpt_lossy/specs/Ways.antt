@@ -8,7 +8,7 @@ use Rattle.lpt_lossy.specs.Bursts.{can_change, bits_changed}
 
 -- ---- one packet
 
--- the bits of octets of these layouts that are changed, where they can be
+-- the bits of octets of these layouts that are changed, if they can be
 abbrev pub if_it_can : Layouts → Option Burst → List ℕ → Option Burst
 if_it_can l None b = None
 if_it_can l (Some u) b = if can_change l u b then Some u else None

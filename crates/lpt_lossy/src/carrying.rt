@@ -16,7 +16,7 @@ use std::alloc::Global;
 // Writes of a packet what is written at once, holds what is written later, and then writes what is
 // held for this turn.
 //
-// Errors: `Write` where a write failed; `Memory`.
+// Errors: `Write` if a write failed; `Memory`.
 pub(crate) fn carry<K: Sink>(
     alloc: Global,
     way: &Fate,

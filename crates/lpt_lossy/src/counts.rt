@@ -38,7 +38,7 @@ impl CrossingCounts {
     ghost use Rattle.lpt_lossy.specs.Counts.{IsCounted};
     ghost use Rattle.lpt_lossy.specs.Ways.{way, Crossing};
 
-    // Of no packets.
+    // The counts of no packets.
     pub(crate) fn new() -> CrossingCounts
         ensures { (link : LossyLink) → IsCounted link [] result }
     {
@@ -71,7 +71,7 @@ fn is_passed(became: &Fate) -> bool
     !(became.is_lost || became.is_twice || became.later > 0 || became.burst.is_some())
 }
 
-// One more, where it is.
+// One more, if it is so.
 fn one_more(count: u64, is: bool) -> u64
     ensures { result ≡ min (count + from_bool is) (2 ^ 64 - 1) }
 {

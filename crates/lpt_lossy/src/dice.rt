@@ -6,7 +6,7 @@ use rand_core::SeedableRng;
 use rand_core::utils::NextWord;
 use rand_xoshiro::Xoshiro256PlusPlus;
 
-/// How often what becomes of packets, in millionths: 0 for never, 1,000,000 for always.
+/// How often each of these happens to packets, in millionths: 0 for never, 1,000,000 for always.
 #[derive(Clone, Copy)]
 pub struct Odds {
     /// That a packet isn't written.

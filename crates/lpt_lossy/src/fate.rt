@@ -9,7 +9,7 @@ pub struct Fate {
     pub is_twice: bool,
     /// It is written behind so many of the packets that come after it, or at the stream's end.
     pub later: u16,
-    /// So it is changed, if it reads as a packet that isn't idle, and this lies within it.
+    /// How it is changed, if it reads as a packet that isn't idle, and this lies within it.
     pub burst: Option<Burst>,
 }
 

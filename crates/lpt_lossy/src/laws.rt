@@ -20,8 +20,8 @@ pub fn nothing_else_is_written()
         → AllByRecursion (ComesFrom xs) (packets_carried link xs) }
 {}
 
-/// Of a packet that isn't lost, it itself is written or, if bits are changed, what is no packet;
-/// once, or twice. Of one that is lost, nothing is.
+/// A packet that isn't lost is itself written or, if bits of it are changed, what is no packet any
+/// more: once, or twice. Of one that is lost, nothing is written.
 pub fn packets_are_written_once_or_twice()
     ensures lost { (link : LossyLink) (x : Crossing) → (way link x).is_lost ≡ true
         → written_of link x ≡ [] }
@@ -34,15 +34,15 @@ pub fn packets_are_written_once_or_twice()
         × IsDamage x.octets (bits_changed u x.octets) }
 {}
 
-/// All of that is written, each copy once, whatever their order: as many of them pass a test as of
-/// what is written.
+/// All that is to be written of packets is written, each copy once, in whatever order: any test
+/// holds of as many of these copies as of what is written.
 pub fn all_of_it_is_written()
     ensures { (link : LossyLink) (xs : List Crossing) (test : List ℕ → Bool)
         → count_by test (packets_carried link xs) ≡ count_by test (flat_map (written_of link) xs) }
 {}
 
-/// Once packets have come, just that is written behind which so many came as it is later: never
-/// more than a packet may be later.
+/// Once packets have come, what was written is what has had its turn: what is later by so many
+/// packets waits until as many came behind it. Nothing is later than a packet may be.
 pub fn none_is_later_than_it_may_be()
     ensures most { (link : LossyLink) (x : Crossing) → (way link x).later ≤ link.most_later }
     ensures due { (link : LossyLink) (xs : List Crossing) (test : List ℕ → Bool)
@@ -50,7 +50,7 @@ pub fn none_is_later_than_it_may_be()
 {}
 
 /// A packet isn't changed if packets of its type have no checksum. At the profile's own layouts
-/// each packet is that isn't idle, if the bits lie within it.
+/// each packet that isn't idle can be changed, if the bits lie within it.
 pub fn checksums_show_changes()
     ensures bare { (link : LossyLink) (x : Crossing) (f : Fields)
         → packet_seen x.octets ≡ Some (APacket f)

@@ -8,6 +8,6 @@ pub struct LossyLink {
     /// How its packets are laid out. Bits are changed only in packets of a type that has a
     /// checksum, which shows it.
     pub layouts: Layouts,
-    /// Behind how many of those that come after it a packet is written at most.
+    /// Behind how many of the packets that come after it a packet is written at most.
     pub most_later: u16,
 }

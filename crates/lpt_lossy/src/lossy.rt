@@ -76,7 +76,7 @@ pub fn lossy_stream<S: Source, K: Sink, D: Decider>(
 
 // Writes all that is held, and has it passed on.
 //
-// Errors: `Write` where a write failed.
+// Errors: `Write` if a write failed.
 fn end_run<K: Sink>(turns: &Turns, out: &mut K) -> Result<(), StreamFault>
     ensures ok { OnOk result (Appends (K.contents out.old) (K.contents out.new)
         (concat (turn_octets turns.now))) }
@@ -90,7 +90,7 @@ fn end_run<K: Sink>(turns: &Turns, out: &mut K) -> Result<(), StreamFault>
     flush_out(out)
 }
 
-// The packet in front, where one is.
+// The packet in front, if one is.
 fn packet_in(front: Option<Found>) -> Option<Found>
     ensures { result ≡ packet_in front }
 {
@@ -101,7 +101,7 @@ fn packet_in(front: Option<Found>) -> Option<Found>
     }
 }
 
-// The place of octets that are left there, where some are.
+// The place of octets that are left there, if some are.
 fn stray_at(place: u64, left: &[u8]) -> Option<u64>
     ensures value { result ≡ (if length left.now == 0 then None else Some place) }
     ensures octets { IsOctets left.now }

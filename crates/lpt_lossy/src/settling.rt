@@ -8,7 +8,7 @@ use crate::burst::can_change;
 use crate::{Burst, Fate, Layouts, LossyLink};
 
 // What becomes of these octets on a link: nothing else becomes of what is lost, none are written
-// later than they may be, and bits are changed only where that shows.
+// later than they may be, and bits are changed only if that shows.
 pub(crate) fn fate_settled(fate: Fate, link: &LossyLink, octets: &[u8]) -> Fate
     ensures way { result ≡ fate_settled link.now fate octets.now }
     ensures most { result.later ≤ link.now.most_later }

@@ -50,7 +50,7 @@ impl Turns {
 
     // Writes what is held for this turn, and goes on to the next one.
     //
-    // Errors: `Write` where a write failed.
+    // Errors: `Write` if a write failed.
     pub(crate) fn pass<K: Sink>(&mut self, out: &mut K) -> Result<(), StreamFault>
         requires { 0 < length (turn_octets self.old) }
         ensures next { OnOk result (turn_octets self.new ≡ next_octets (turn_octets self.old)) }
@@ -69,7 +69,7 @@ impl Turns {
 
     // Writes all that is held.
     //
-    // Errors: `Write` where a write failed.
+    // Errors: `Write` if a write failed.
     pub(crate) fn write_all<K: Sink>(&self, out: &mut K) -> Result<(), StreamFault>
         ensures ok { OnOk result (Appends (K.contents out.old) (K.contents out.new)
             (concat (turn_octets self.now))) }

@@ -32,7 +32,7 @@ dump_area content r = dumped_area r (octets_in content r)
 abbrev pub check_area : List ℕ → AreaRange → List ℕ
 check_area content r = checked_area r (octets_in content r)
 
--- the octets of a memory; none where there is no such memory, which no request names
+-- the octets of a memory; none if there is no such memory, which no request names
 abbrev pub octets_of : ℕ → Contents → List ℕ
 octets_of id ms = unwrap_or (content_of id ms) []
 
@@ -68,7 +68,7 @@ AnswerFits (effects.Code code) = number_of code ≤ 6
 AnswerFits effects.Done = Unit {0}
 AnswerFits (effects.Reply kind body) = length body ≤ 65523
 
--- how many octets the body of the reply has, where there is one: 2, and 8 in each area; in a dump
+-- how many octets the body of the reply has, if there is one: 2, and 8 in each area; in a dump
 -- those of the memory besides
 abbrev pub reply_length : Meaning → Option ℕ
 reply_length Silent = None
@@ -77,7 +77,7 @@ reply_length (Load id areas) = None
 reply_length (Dump id ranges) = Some (2 + sum_by (λ r. area_header + r.len) ranges)
 reply_length (Check id ranges) = Some (2 + 8 * length ranges)
 
--- how many octets the reply has that was answered, where it is one
+-- how many octets the reply has that was answered, if it is one
 abbrev pub length_replied : Effect → Option ℕ
 length_replied effects.Silent = None
 length_replied (effects.Code code) = None

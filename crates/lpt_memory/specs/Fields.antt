@@ -1,4 +1,4 @@
--- Fields at the front of octets: each is a value and the octets behind it, or nothing where there
+-- Fields at the front of octets: each is a value and the octets behind it, or nothing if there
 -- are too few.
 use Rattle.std.specs.Prelude.{ℕ, zero, suc, List, [], ◌∷◌, length, take, drop, slice_index, Option, Some, None, option_and_then, nat_lt, ◌==◌, if◌then◌else◌}
 use Rattle.lpt_packet.specs.Numbers.{word_at}

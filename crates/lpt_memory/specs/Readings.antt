@@ -14,7 +14,7 @@ pub record Source : Type 0 where
 abbrev pub source_meaning : Source → Meaning
 source_meaning s = meaning s.apid s.sizes s.message
 
--- this is the head of the telecommand that octets are, or nothing where they are none of this APID
+-- this is the head of the telecommand that octets are, or nothing if they are none of this APID
 abbrev pub IsHeadIn : Option TcHead → ℕ → List ℕ → Type 0
 IsHeadIn head apid octets =
     MatchOption head (command_in apid octets ≡ None)

@@ -129,7 +129,7 @@ pub(crate) fn load(memories: &mut [(u8, Octets)], id: u8, body: &[u8], areas: &[
     }
 }
 
-// The octets of a memory, or none where there is no such memory.
+// The octets of a memory, or none if there is no such memory.
 fn octets_of(memories: &[(u8, Octets)], id: u8) -> &[u8]
     ensures { result.now ≡ octets_of id memories.now }
 {

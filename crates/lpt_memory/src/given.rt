@@ -74,7 +74,7 @@ impl Reading {
             → octets_read (source_meaning self.now) ms ≡ octets.now
             → IfOk result (λ e. e ≡ answer (source_meaning self.now) ms) }
 
-        // It fails only where there is a reply to be made.
+        // It fails only if there is a reply to be made.
         ensures no_reply { HasNoReply (source_meaning self.now) → IsOk result }
     {
         octets::answer_of(alloc, self.plan(), octets)

@@ -15,8 +15,8 @@ ghost use Rattle.lpt_memory.specs.Overlaps.{Covers, NoneCovers};
 ghost use Rattle.lpt_memory.specs.Ranges.{AreasFit};
 ghost use Rattle.lpt_memory.specs.Meanings.{Meaning, Sizes, Silent, Fault, Load, Dump, Check, size_of, load_fault, range_fault, dump_length, area, unless, body_meaning, meaning};
 
-/// What a message means, by what its octets are: nothing if they are no telecommand of this
-/// APID, an unknown request if its service and subtype are none that is known, else what its
+/// What a message means, by what its octets are: nothing if they are no telecommand of this APID,
+/// an unknown request if its service and subtype are none that is known, and otherwise what its
 /// body means.
 pub fn meanings_follow_octets()
     ensures silent { (apid : ℕ) (sizes : Sizes) (message : List ℕ)
@@ -52,7 +52,7 @@ pub fn range_bodies_are_read()
 {}
 
 /// What a load means, by the encoding of its body: malformed if it has none; an unknown memory;
-/// else the first fault of its areas, or the load.
+/// otherwise the first fault of its areas, or the load.
 pub fn load_meanings_follow_bodies()
     ensures malformed { (sizes : Sizes) (body : List ℕ) → IsOctets body
         → ((memory : ℕ) (areas : List LoadArea) → AreAreas LoadAreaFits areas
@@ -69,9 +69,9 @@ pub fn load_meanings_follow_bodies()
         ≡ unless (load_fault size areas) (Load memory (map area areas)) }
 {}
 
-/// What a dump or a check means, by the encoding of its body: malformed if it has none; an
-/// unknown memory; else a range that isn't within it; then a dump whose answer is too long; else
-/// the dump or the check.
+/// What a dump or a check means, by the encoding of its body: malformed if it has none; an unknown
+/// memory; otherwise a range that isn't within it; then a dump whose answer is too long; and
+/// otherwise the dump or the check.
 pub fn range_meanings_follow_bodies()
     ensures malformed { (sizes : Sizes) (body : List ℕ) → IsOctets body
         → ((memory : ℕ) (ranges : List AreaRange) → AreAreas RangeFits ranges

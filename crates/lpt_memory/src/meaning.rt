@@ -168,7 +168,7 @@ pub(crate) fn body_of(message: &[u8]) -> &[u8]
     message[..end].get(HEADERS..).unwrap_or(&[])
 }
 
-// The head of the telecommand that octets are, where they are the packet of one with this APID.
+// The head of the telecommand that octets are, if they are the packet of one with this APID.
 #[tactic(auto, unfolding(lpt_pus::specs::Commands::command_in))]
 pub(crate) fn head_in(apid: u16, octets: &[u8]) -> Option<TcHead>
     requires { IsOctets octets.now }
@@ -187,7 +187,7 @@ pub(crate) fn head_in(apid: u16, octets: &[u8]) -> Option<TcHead>
     Some(head)
 }
 
-// What the telecommand that a message is means, or nothing where it is none. The only error is
+// What the telecommand that a message is means, or nothing if it is none. The only error is
 // out of memory.
 pub(crate) fn plan(
     alloc: Global,

@@ -92,7 +92,7 @@ impl Memories {
         ensures answer { IfOk result (λ e. e ≡ answer (source_meaning reading.now) self.now) }
         ensures fits { IfOk result (λ e. AnswerFits e) }
 
-        // It fails only where there is a reply to be made.
+        // It fails only if there is a reply to be made.
         ensures no_reply { HasNoReply (source_meaning reading.now) → IsOk result }
     {
         match reading.plan() {
@@ -142,7 +142,7 @@ impl Memories {
         ensures shape { sizes_of self.new ≡ sizes_of self.old }
         ensures fits { IfOk result (λ e. AnswerFits e) }
 
-        // It fails only where there is a reply to be made, and then changes nothing.
+        // It fails only if there is a reply to be made, and then changes nothing.
         ensures no_reply { HasNoReply (source_meaning reading.now) → IsOk result }
         ensures err { OnErr result (self.new ≡ self.old) }
     {

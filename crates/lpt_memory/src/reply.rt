@@ -35,7 +35,7 @@ pub(crate) fn check_len(ranges: &[AreaRange]) -> usize
     BODY_HEAD + AREA_HEADER * ranges.len()
 }
 
-// How many octets the body of the reply has, where there is one, whatever the message's body is.
+// How many octets the body of the reply has, if there is one, whatever the message's body is.
 pub(crate) fn reply_len(plan: &Plan) -> Option<usize>
     requires { IsCounted plan.now }
     ensures { (body : List ℕ) → result ≡ reply_length (plan_meaning body plan.now) }

@@ -144,7 +144,7 @@ pub fn write_load(
     // What is written means that load, in memories where it fits.
     ensures means { IfOk result (λ o. MeansLoad head.now.apid o memory areas.now) }
 
-    // The fault is the first; memory can run out only where there is none.
+    // The fault is the first; memory can run out only if there is none.
     ensures fault { IfSome (write_fault areas.now) (λ e. result ≡ Err e) }
     ensures memory { IfNone (write_fault areas.now) (IfErr result (λ e. e ≡ Memory)) }
 {

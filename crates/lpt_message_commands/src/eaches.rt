@@ -56,9 +56,10 @@ impl<R: Machine> Shelf for MachineShelf<'_, R> {
 }
 
 impl<R: Machine> MachineShelf<'_, R> {
-    // Writes a message that became whole into a new file at this path: all of it, or there is none.
+    // Writes a message that became whole into a new file at this path: all of it, or there is no
+    // file.
     //
-    // Errors: `Write`, also where there is a file at this path.
+    // Errors: `Write`, also if there is a file at this path.
     fn write_given(&mut self, path: &str, message: &[u8]) -> Result<(), StreamFault>
         ensures { IfErr result (λ e. e ≡ StreamFault.Write) }
     {
@@ -175,7 +176,7 @@ pub fn join_each<'a, R: Machine>(
     status
 }
 
-/// The same of packets that were opened.
+/// Does the same with packets that were opened.
 ///
 /// Errors: `Read` if they can't be read, or their capture is wrong; the others of `join_each`.
 pub fn write_each<'a, R: Machine>(
@@ -236,9 +237,9 @@ fn status_of(
     }
 }
 
-// The status of a join whose stream was read to its end, after it was told where no part came, and
-// where not all is well, or what was passed over may hold messages, what that was. The only error
-// is out of memory.
+// The status of a join whose stream was read to its end, after standard error was told if no part
+// came, and, if not all is well or what was passed over may hold messages, what that was. The only
+// error is out of memory.
 fn tell_outcome(
     rt: &(impl Eprint + AllocGlobal),
     words: &EachWords<'_>,
@@ -261,7 +262,7 @@ fn tell_outcome(
 }
 
 // Which parts of the message of this word are missing, as a list for `split --each`, and from where
-// on others of it came, where that is known. The only error is out of memory.
+// on others of it came, if that is known. The only error is out of memory.
 fn missing_text(
     alloc: Global,
     who: &str,

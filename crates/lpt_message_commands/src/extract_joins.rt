@@ -43,7 +43,7 @@ impl<R: Machine> TakerAs for Losses<'_, R> {
     }
 }
 
-/// How parts that come down are read: by the layouts of a file if one is given, else by the
+/// How parts that come down are read: by the layouts of a file if one is given, otherwise by the
 /// profile.
 pub fn reading_down(config: &Config, layouts: &Layouts, words: &ExtractWords<'_>) -> Reading
     requires { IsConfig config.now }
@@ -56,8 +56,8 @@ pub fn reading_down(config: &Config, layouts: &Layouts, words: &ExtractWords<'_>
 }
 
 /// Writes the octets that dump reports hold which may come in parts: by the layouts of a file if
-/// one is given, else by the profile. Beside what that gave it says whether parts never became
-/// whole, which standard error was told.
+/// one is given, otherwise by the profile. Beside what that gave it answers whether parts never
+/// became whole, which standard error was told.
 pub fn extract_parts<R: Machine, K: Sink>(
     rt: &R,
     voice: Voice,

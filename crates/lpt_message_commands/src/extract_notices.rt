@@ -27,7 +27,7 @@ impl<R: Machine> Listener for Telling<'_, R> {
     }
 }
 
-// What is reported of an area or a report, where something is. The only error is out of memory.
+// What is reported of an area or a report, if something is. The only error is out of memory.
 fn notice_text(alloc: Global, notice: Notice) -> Result<Option<String>, AllocError> {
     let text = match notice {
         Notice::Taken(span) => area_text(alloc, span)?,

@@ -18,7 +18,7 @@ use lpt_text::StreamFault;
 use std::alloc::{AllocError, Global};
 use std::collections::BTreeMap;
 
-/// Writes the octets that dump reports hold: by the layouts of a file if one is given, else by
+/// Writes the octets that dump reports hold: by the layouts of a file if one is given, otherwise by
 /// the profile.
 ///
 /// Errors: `Read` if the packets can't be opened or read, or their capture is wrong; `Config`
@@ -92,9 +92,9 @@ fn extract_packets<R: Machine>(
     }
 }
 
-// The status of an extraction that ended so, where its output was finished, and parts were joined
-// that are read so, or none were. What is of another APID is told if it tells of all, or if not all
-// is well.
+// The status of an extraction that ended so, once its output was finished, by how joined parts are
+// read, if parts were joined. What is of another APID is told if it tells of all, or if not all is
+// well.
 fn status_of(
     rt: &(impl Eprint + AllocGlobal),
     tells: bool,
@@ -110,9 +110,9 @@ fn status_of(
     }
 }
 
-// The image that is asked for, where one is.
+// The image that is asked for, if one is.
 //
-// Errors: what is said of an image, where none is asked for.
+// Errors: what is said of an image, if none is asked for.
 fn place(words: &ExtractWords<'_>) -> Result<Option<ImagePlace>, ()> {
     match words.at {
         Some(memory) => Ok(Some(ImagePlace {

@@ -84,7 +84,7 @@ fn wanted_of(config: &Config, words: &JoinWords<'_>) -> Wanted
     }
 }
 
-/// The same of packets that were opened.
+/// Does the same with packets that were opened.
 ///
 /// Errors: `Read` if they can't be read, or their capture is wrong; `Write`, `Memory`.
 pub fn join_from<R: Machine>(
@@ -102,7 +102,7 @@ pub fn join_from<R: Machine>(
     status
 }
 
-// The status of a join that ended so, where its output was finished.
+// The status of a join that ended so, once its output was finished.
 fn status_of(
     rt: &(impl Eprint + AllocGlobal),
     words: &OneWords<'_>,
@@ -119,9 +119,9 @@ fn status_of(
     }
 }
 
-// The status of a join that ended so, after it was told what isn't whole, or isn't all, and where
-// nothing was written, or what was passed over may hold messages, what that was. The only error is
-// out of memory.
+// The status of a join that ended so, after standard error was told what isn't whole, or isn't all,
+// and, if nothing was written or what was passed over may hold messages, what that was. The only
+// error is out of memory.
 fn tell_outcome(
     rt: &(impl Eprint + AllocGlobal),
     words: &OneWords<'_>,
@@ -209,7 +209,7 @@ pub fn tell_none(
     tell(rt, text)
 }
 
-// Says how the join of a transaction ended of which this is kept, where not all of it is well, and
+// Says how the join of a transaction ended of which this is kept, if not all of it is well, and
 // gives the status of that. The only error is out of memory.
 fn tell_end(
     rt: &(impl Eprint + AllocGlobal),
@@ -250,7 +250,7 @@ fn foreign(alloc: Global, place: u64) -> Result<String, AllocError> {
     format!(in alloc; "parts of another message of this name come from octet {place} on")
 }
 
-// Says the part size of a transaction, where that isn't known before and more is told than what is
+// Says the part size of a transaction, if that isn't known before and more is told than what is
 // wrong, and gives the place of the first part that contradicts those before it. The only error is
 // out of memory.
 fn tell_size(

@@ -62,7 +62,7 @@ pub fn join<R: Machine>(
     status
 }
 
-// The name that the words give, where one is asked for and the layout has room for it, and this
+// The name that the words give, if one is asked for and the layout has room for it, and this
 // source is configured.
 //
 // Errors: `Id`.
@@ -85,7 +85,7 @@ fn name_in<'a>(
     }))
 }
 
-/// The name that is meant if this source is configured: 0 if the layout has no field for it.
+/// The user that is meant if this source is configured: 0 if the layout has no field for it.
 pub fn user_of(given: WideName, source: u32, width: Width) -> u32 {
     match width {
         Width::Absent => 0,

@@ -17,8 +17,8 @@ use lpt_split_each::{EachEnd, EachSplit, EachWanted, Pick, split_each};
 use lpt_text::StreamFault;
 use std::alloc::{AllocError, Global};
 
-/// Writes the packets of the parts of each message of a stream: by the layouts of a file if one
-/// is given, else by the profile.
+/// Writes the packets of the parts of each message of a stream: by the layouts of a file if one is
+/// given, otherwise by the profile.
 ///
 /// Errors: `Read` if a file can't be opened or read; `Config` if the layouts' file is too
 /// long; `Write`, `Memory`.
@@ -47,7 +47,7 @@ pub fn split_all<R: Machine>(
     status
 }
 
-// The name of the first that the words give, where the layout has room for it and for those that are
+// The name of the first that the words give, if the layout has room for it and for those that are
 // chosen, and these have its source.
 //
 // Errors: `Id`, `Pick`, `PickSource`.
@@ -199,8 +199,8 @@ fn kind_of(direction: Direction) -> &'static str {
     }
 }
 
-// Says of each message that is chosen and didn't come that it didn't, where the identifiers begin at
-// this one and end before the other, and gives the status of that. The only error is out of memory.
+// Says that no packet has the identifier, for each chosen one outside `first` up to before `next`,
+// and gives the status of that. The only error is out of memory.
 fn tell_unknown(
     rt: &(impl Eprint + AllocGlobal),
     first: u32,
@@ -231,7 +231,7 @@ fn list_of<'a>(words: &SplitEachWords<'a>, id: u64) -> &'a str {
     "1-"
 }
 
-// Says this on standard error, where there was memory for it, and gives the status of that.
+// Says this on standard error, if there was memory for it, and gives the status of that.
 fn tell(
     rt: &impl Eprint,
     text: Result<String, AllocError>,

@@ -32,7 +32,7 @@ pub struct Fill {
 }
 
 impl Fill {
-    /// By this configuration.
+    /// What this configuration gives: its clock as time, and zeros.
     pub fn new(config: &Config) -> Fill {
         Fill {
             clock: config.clock.to_be_bytes(),
@@ -40,7 +40,7 @@ impl Fill {
         }
     }
 
-    // So much time: the clock where it has four octets, else zeros.
+    // So much time: the clock if it has four octets, otherwise zeros.
     fn time(&self, octets: u8) -> &[u8] {
         if octets == 4 {
             &self.clock
@@ -54,7 +54,7 @@ impl Fill {
     }
 }
 
-/// Writes the packets of a message's parts: by the layouts of a file if one is given, else by
+/// Writes the packets of a message's parts: by the layouts of a file if one is given, otherwise by
 /// the profile.
 ///
 /// Errors: `Read` if a file can't be opened or read; `Config` if the layouts' file is too
@@ -179,7 +179,7 @@ fn split_from<R: Machine>(
     }
 }
 
-// Says where what was split is no message, so that whoever joins it gets none, and by which word
+// Says so if what was split is no message, so that whoever joins it gets none, and by which word
 // several packets are split.
 fn tell_misfit(
     rt: &(impl Eprint + AllocGlobal),
@@ -224,7 +224,7 @@ fn unsplit(
     status_of(end)
 }
 
-/// The status if a message isn't split, so.
+/// The status of a split that ended so.
 pub fn status_of(end: SplitEnd) -> Status {
     match end {
         SplitEnd::Written(_) => Status::Done,

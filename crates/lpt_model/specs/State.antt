@@ -220,12 +220,12 @@ abbrev pub as_list : {A : Type 0} → Option A → List A
 as_list None = []
 as_list (Some x) = x ∷ []
 
--- the link where packets of these octets were put, the first of them first
+-- the link once packets of these octets were put, the first of them first
 abbrev pub put_all : LinkData → Direction → Option Name → List (List ℕ) → LinkData
 put_all v d tag [] = v
 put_all v d tag (b ∷ bs) = put_all (after_put v d tag b) d tag bs
 
--- the link where a report was put, or none
+-- the link once a report was put, or none
 abbrev pub put_report : LinkData → Option (List ℕ) → LinkData
 put_report v packet = put_all v Down None (as_list packet)
 
@@ -240,7 +240,7 @@ abbrev pub released_of : Direction → Outcome → Option (Direction × Name)
 released_of d (Released name len) = Some (d, name)
 released_of d _ = None
 
--- the releases with that of a delivery, where it released anything
+-- the releases with that of a delivery, if it released anything
 abbrev pub add_release : List Release → ℕ → Direction → Outcome → Option (List ℕ) → List Release
 add_release rs place d o None = rs
 add_release rs place d o (Some m) =
@@ -280,7 +280,7 @@ after_tick s side turn = (
   quiet (Clock (turned_so turn (end_of s side)).clock),
 )
 
--- a node has ended a reception and answered, and its report is put, where it made one
+-- a node has ended a reception and answered, and its report is put, if it made one
 abbrev pub expired_on : State → Side → NodeData × Ended → State × Reply
 expired_on s side x = (
   record (with_end s side x.0) { link = put_report s.link x.1.packet },
@@ -323,7 +323,7 @@ committed_on c s w None = (s, quiet (Committed 0 0))
 committed_on c s w (Some t) =
     handed_in s w t (job_committed s.on_craft t.boot t.job (read_for c s t))
 
--- the openings with that of a report of data, where one was opened
+-- the openings with that of a report of data, if one was opened
 abbrev pub add_opening : List Opening → ℕ → Option (Name × List ℕ) → List Opening
 add_opening os place None = os
 add_opening os place (Some x) =

@@ -26,7 +26,7 @@ abbrev pub made_of : Config → NodeData → Source → Ending → List (Report 
 made_of c d r end =
     report_packets c (request_source r.apid r.message) d.sending d.clock (reports_of r end)
 
--- the reports of the execution of what stands at the front, where it is ready
+-- the reports of the execution of what stands at the front, if it is ready
 abbrev pub front_reports : Config → NodeData → Contents → Head → List Report
 front_reports c d ms NoJob = []
 front_reports c d ms NotReady = []
@@ -38,7 +38,7 @@ reports_given c d octets NoJob = []
 reports_given c d octets NotReady = []
 reports_given c d octets (Ready r) = reports_of r (ending_given c d octets r)
 
--- the same where it is refused with this failure code
+-- the same if it is refused with this failure code
 abbrev pub reports_refused : FailureCode → Head → List Report
 reports_refused code NoJob = []
 reports_refused code NotReady = []

@@ -29,7 +29,7 @@ use Rattle.lpt_node.specs.Sending.{counted_kind, message_opened}
 
 -- ---- claims
 
--- why no job is claimed, where this one waits longest
+-- why no job is claimed, if this one waits longest
 abbrev pub refusal_claim_of : Option (ℕ × List ℕ) → Option NodeFault
 refusal_claim_of None = Some NoJob
 refusal_claim_of (Some x) = None
@@ -38,7 +38,7 @@ refusal_claim_of (Some x) = None
 abbrev pub refusal_claim : NodeData → Option NodeFault
 refusal_claim d = refusal_claim_of (oldest_unclaimed d.jobs)
 
--- the job that waits longest is claimed; where none waits none is, and the call is refused
+-- the job that waits longest is claimed; if none waits, none is, and the call is refused
 abbrev pub claimed_of : NodeData → Option (ℕ × List ℕ) → NodeData × Ticket
 claimed_of d None = (d, record { boot = d.boot; job = 0; message = [] })
 claimed_of d (Some x) = (
@@ -118,7 +118,7 @@ abbrev pub reports_made : Sending → List Report → Sending
 reports_made s [] = s
 reports_made s (r ∷ rs) = reports_made (counted_kind s r.kind) rs
 
--- the end where a report of data was opened as a message, or none
+-- the end once a report of data was opened as a message, or none
 abbrev pub with_opened : NodeData → Option (Name × List ℕ) → NodeData
 with_opened d None = d
 with_opened d (Some x) = message_opened d x.0 x.1
@@ -153,7 +153,7 @@ executed_with c d peer end reports message = (
   },
 )
 
--- the same, where its execution ends so: its reports go to the request's own source, and what is
+-- the same, if its execution ends so: its reports go to the request's own source, and what is
 -- opened of them has a name of that source
 abbrev pub executed_ending : Config → NodeData → Source → Ending → NodeData × Execution
 executed_ending c d r end =
@@ -178,7 +178,7 @@ executed_of c d ms (Ready r) =
 abbrev pub job_executed : Config → NodeData → Contents → (NodeData × Execution) × Contents
 job_executed c d ms = executed_of c d ms (head_of d.jobs.jobs)
 
--- ---- executions where the memories are elsewhere
+-- ---- executions if the memories are elsewhere
 
 -- the reading at the front, if there is one
 abbrev pub front_reading : Head → Option Source
@@ -204,7 +204,7 @@ executed_so c d end NoHead = (d, not_executed)
 executed_so c d end HeadNotReady = (d, not_executed)
 executed_so c d end (Ready r) = executed_ending c d r (end r)
 
--- the oldest job is executed, where memories have these octets that it reads: the end after it with
+-- the oldest job is executed, if memories have these octets that it reads: the end after it with
 -- the answer
 abbrev pub executed_given : Config → NodeData → List ℕ → NodeData × Execution
 executed_given c d octets = executed_so c d (ending_given c d octets) (head_of d.jobs.jobs)

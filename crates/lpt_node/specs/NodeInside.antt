@@ -32,7 +32,7 @@ pub record IsConfigured (c : Config) (r : ReceiverState) : Type 0 where
   pub p : r.p ≡ c.part_size
   pub mode : r.mode ≡ c.mode
 
--- a message is kept exactly where the sender is open
+-- a message is kept exactly if the sender is open
 abbrev pub AreKept : Marks → Messages → Type 0
 AreKept m messages = (name : Name) → is_some (map.get messages name) ≡ is_open (state_at m name)
 

@@ -61,7 +61,7 @@ abbrev pub direction_from : Side → Direction
 direction_from Ground = Up
 direction_from Craft = Down
 
--- lengths that a message may have where a part has p octets
+-- lengths that a message may have if a part has p octets
 pub record MessageFits (p len : ℕ) : Type 0 where
   pub least : p < len
   pub greatest : len ≤ longest_packet

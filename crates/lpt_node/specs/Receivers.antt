@@ -47,7 +47,7 @@ abbrev pub table_in : ReceiverState → TableState
 table_in r =
     record { limit = r.limit; timeout = r.timeout; p = r.p; mode = r.mode; entries = r.entries; out = None }
 
--- a name is free where a reception of it is open, and is never open
+-- a name is free if a reception of it is open, and is never open
 abbrev pub IsTied : State → Option TableEntry → Type 0
 IsTied Free e = Unit {0}
 IsTied Open e = ⊥
@@ -68,7 +68,7 @@ pub record IsReceiver (m : Marks) (t : TableState) : Type 0 where
 abbrev pub abort_packet : Telemetry → Name → Reason → List ℕ
 abort_packet head name reason = spelling (tm_packet_of (record head { body = abort_body name.id reason }))
 
--- the report that a reception was broken off, where reports have a head
+-- the report that a reception was broken off, if reports have a head
 abbrev pub abort_report : Option Telemetry → Name → Reason → Option (List ℕ)
 abort_report None name reason = None
 abort_report (Some head) name reason = Some (abort_packet head name reason)
@@ -119,7 +119,7 @@ abbrev pub received_from : Option Telemetry
     → ReceiverState × Receipt
 received_from head r name parts o = after_offer head r name parts o.0 o.1.entries
 
--- a part is taken where its name is free
+-- a part is taken if its name is free
 abbrev pub if_free : State → ReceiverState → ReceiverState × Receipt → ReceiverState × Receipt
 if_free s r x = if is_free s then x else (r, receipt.Closed)
 

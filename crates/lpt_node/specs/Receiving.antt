@@ -50,7 +50,7 @@ plain_released b =
 abbrev pub packet_ignored : Why → Accepted
 packet_ignored w = outcome_noted (outcome.Ignored w)
 
--- the end where the report of an abortion was made, or none
+-- the end once the report of an abortion was made, or none
 abbrev pub with_report : NodeData → Option (List ℕ) → NodeData
 with_report d None = d
 with_report d (Some o) = record d { sending = counted_kind d.sending Abort }
@@ -60,7 +60,7 @@ abbrev pub jobs_with : Side → Jobs → List ℕ → Jobs
 jobs_with Ground q m = q
 jobs_with Craft q m = after_push q m
 
--- the end where a message is released
+-- the end once a message is released
 abbrev pub with_job : Side → NodeData → List ℕ → NodeData
 with_job side d m = record d { jobs = jobs_with side d.jobs m }
 

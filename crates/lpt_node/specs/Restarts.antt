@@ -17,7 +17,7 @@ use Rattle.lpt_node.specs.Nodes.{NodeData, Receiving, direction_from, is_open}
 
 -- ---- the state of a name
 
--- the state of a name at its receiver: open where a reception of it is
+-- the state of a name at its receiver: open if a reception of it is
 abbrev pub received_state : Receiving → Name → State
 received_state r name = if is_some (map.get r.entries name) then Open else state_at r.ledger name
 

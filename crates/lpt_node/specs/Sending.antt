@@ -22,7 +22,7 @@ use Rattle.lpt_events.specs.MadePackets.{nth_part, part_made}
 use Rattle.lpt_packet.specs.Sizes.{longest_packet}
 use Rattle.lpt_node.specs.Nodes.{Sending, NodeData, direction_from, message_at}
 
--- why a message of this length isn't taken, under a name of this state, where n are open and so
+-- why a message of this length isn't taken, under a name of this state, if n are open and so
 -- many may be
 abbrev pub refusal_open_in : Config → (limit : ℕ) → State → ℕ → ℕ → Option NodeFault
 refusal_open_in c limit Open n len = Some InUse
@@ -102,7 +102,7 @@ abbrev pub sent_piece : Side → Config → NodeData → (peer : ℕ) → Piece 
 sent_piece side c d peer q =
     (record d { sending = counted_part side d.sending q.kind }, part_packet side c d peer q)
 
--- part k of a message is sent; of none nothing is, where the call is refused
+-- part k of a message is sent; of none nothing is, and the call is refused
 abbrev pub sent_of : Side → Config → NodeData → Name → ℕ → Option (List ℕ) → NodeData × List ℕ
 sent_of side c d name k None = (d, [])
 sent_of side c d name k (Some m) =
@@ -122,13 +122,13 @@ refusal_finish_in Closed = Some NotOpen
 abbrev pub refusal_finish : NodeData → Name → Option NodeFault
 refusal_finish d name = refusal_finish_in (state_at d.sending.ledger name)
 
--- a transaction is closed where its state is open, and its message let go
+-- a transaction is closed if its state is open, and its message let go
 abbrev pub closed_by : State → Sending → Name → Sending
 closed_by Open s name = record s { ledger = map.insert s.ledger name Shut; messages = map.remove s.messages name }
 closed_by Free s name = s
 closed_by Closed s name = s
 
--- a transaction is closed where it is open
+-- a transaction is closed if it is open
 abbrev pub closed_in : Sending → Name → Sending
 closed_in s name = closed_by (state_at s.ledger name) s name
 
@@ -136,7 +136,7 @@ closed_in s name = closed_by (state_at s.ledger name) s name
 abbrev pub sender_closed : NodeData → Name → NodeData
 sender_closed d name = record d { sending = closed_in d.sending name }
 
--- the fault of a call is why it was refused, or out of memory where nothing refuses it
+-- the fault of a call is why it was refused, or out of memory if nothing refuses it
 abbrev pub RefusedBy : Option NodeFault → NodeFault → Type 0
 RefusedBy (Some g) f = f ≡ g
 RefusedBy None f = f ≡ Memory

@@ -46,7 +46,7 @@ turned_so (Within l) d = node_within l d
 abbrev pub due : Config → NodeData → Option Name
 due c d = due_of (table_in (receiver_of c d.receiving)) d.clock
 
--- why no reception is given up, where this is due
+-- why no reception is given up, if this is due
 abbrev pub refusal_expire_of : Option Name → Option NodeFault
 refusal_expire_of None = Some NothingDue
 refusal_expire_of (Some name) = None
@@ -62,7 +62,7 @@ expired_with c d name packet = (
   record { name = name; packet = packet },
 )
 
--- the reception that is due is given up; where none is nothing is, and the call is refused
+-- the reception that is due is given up; if none is, nothing is, and the call is refused
 abbrev pub expired_of : Side → Config → NodeData → Option Name → NodeData × Expired
 expired_of side c d None = (d, record { name = no_name; packet = None })
 expired_of side c d (Some name) = expired_with c d name (abort_report (abort_head side c d name.source) name reason.Expired)

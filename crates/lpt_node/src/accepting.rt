@@ -35,7 +35,7 @@ impl Node {
         ensures side { self.new.side ≡ self.old.side }
         ensures config { self.new.config ≡ self.old.config }
 
-        // Memory runs out only where a part is kept, a message released or a reception broken off.
+        // Memory runs out only if a part is kept, a message released or a reception broken off.
         ensures memory { OnErr result
             (grows (packet_accepted self.old.side self.old.config self.old.at
             (arrival_from parsed)).1 ≡ true) }
@@ -69,7 +69,7 @@ impl Node {
         ensures side { self.new.side ≡ self.old.side }
         ensures config { self.new.config ≡ self.old.config }
 
-        // Memory runs out only where a part is kept, a message released or a reception broken off.
+        // Memory runs out only if a part is kept, a message released or a reception broken off.
         ensures memory { OnErr result
             (grows (packet_accepted self.old.side self.old.config self.old.at
             (arrival_at self.old octets.now)).1 ≡ true) }
@@ -184,7 +184,7 @@ impl Node {
         }
     }
 
-    // Counts the report of an abortion, where one was made.
+    // Counts the report of an abortion, if one was made.
     fn count_abort(&mut self, report: Option<&Octets>)
         ensures at { self.new.at ≡ with_report self.old.at (option_map (λ o. o.now) report.entry) }
 
@@ -210,7 +210,7 @@ fn plain_released(octets: Octets) -> Accepted
     }
 }
 
-// An outcome alone.
+// The answer of an outcome alone.
 fn outcome_noted(outcome: Outcome) -> Accepted
     ensures { result ≡ outcome_noted outcome }
 {

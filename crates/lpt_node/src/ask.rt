@@ -16,7 +16,7 @@ pub enum Ask {
     Finish(Name),
     /// To set the clock one tick on.
     Tick,
-    /// To give the reception up that is due.
+    /// To end the reception that is due.
     Expire,
     /// To claim the oldest job that waits.
     Claim,

@@ -94,7 +94,7 @@ impl Node {
         }
     }
 
-    // Why no reception is given up for its age.
+    // Why no reception ends for its age.
     fn refusal_expire(&self) -> Option<NodeFault>
         ensures { result ≡ refusal_expire self.now.config self.now.at }
     {

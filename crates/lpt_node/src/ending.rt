@@ -28,7 +28,7 @@ use lpt_table::Table;
 use std::alloc::{AllocError, Global};
 
 // Ends a reception of which all parts are there, with its message, which becomes a job at the
-// spacecraft. It is put back where there is no memory for that.
+// spacecraft. It is put back if there is no memory for that.
 pub(crate) fn release(
     side: Side,
     jobs: &mut JobQueue,
@@ -109,7 +109,7 @@ fn add_whole(jobs: &mut JobQueue, whole: &Whole) -> Result<(), AllocError>
     }
 }
 
-// Ends a reception that is broken off, with a report of it. It is put back where there is no memory
+// Ends a reception that is broken off, with a report of it. It is put back if there is no memory
 // for that.
 pub(crate) fn abort(
     alloc: Global,
@@ -165,7 +165,7 @@ pub(crate) fn break_off(
     Ok(Receipt::Conflict(Reason::Discontinuity, report))
 }
 
-// Closes the name of a reception that ends without its message, with a report of it, where reports
+// Closes the name of a reception that ends without its message, with a report of it, if reports
 // have a head. The only error is out of memory, and then nothing has changed.
 pub(crate) fn close_reported(
     alloc: Global,

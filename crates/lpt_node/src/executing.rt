@@ -55,7 +55,7 @@ impl Node {
             e ≡ ending_at self.now.config self.now.at memories.now reading.now) }
         ensures fits { IfOk result EndingFits }
 
-        // Memory runs out only where there is a report.
+        // Memory runs out only if there is a report.
         ensures memory { OnErr result (reports_of reading.now
             (ending_at self.now.config self.now.at memories.now reading.now) ≢ []) }
     {
@@ -83,7 +83,7 @@ impl Node {
         Ok(ending)
     }
 
-    // What the execution of a reading answers that ends so, where it opens no message, and the
+    // What the execution of a reading answers that ends so, if it opens no message, and the
     // packets of its reports, which go to the request's own source.
     pub(crate) fn execution(
         &self,
@@ -103,7 +103,7 @@ impl Node {
         ensures fits { IfOk result (λ x.
             All (λ m. MessageFits self.now.config.part_size (length m)) x.1.large.items) }
 
-        // Memory runs out only where there is a report.
+        // Memory runs out only if there is a report.
         ensures memory { OnErr result (reports_of reading.now ending ≢ []) }
     {
         let peer = request_source(reading);

@@ -1,8 +1,8 @@
-//! What the giving up of a reception answers.
+//! What the end of a reception without its message answers.
 
 use lpt_packet::{Name, Octets};
 
-/// What a node answers when it has given a reception up for its age.
+/// What a node answers when a reception has expired, or was given up before its time.
 #[derive(Drop)]
 pub struct Expired {
     /// The transaction whose reception it was.

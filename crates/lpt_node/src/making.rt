@@ -142,7 +142,7 @@ fn telemetry_of(kind: Kind) -> TelemetryKind
     }
 }
 
-// The report that a reception was broken off, where reports have a head.
+// The report that a reception was broken off, if reports have a head.
 pub(crate) fn abort_report(
     alloc: Global,
     head: Option<TmHead>,

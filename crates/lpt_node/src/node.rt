@@ -171,7 +171,7 @@ impl Node {
     pub fn sender(&self, name: Name) -> State
         ensures state { result ≡ state_at self.now.at.sending.ledger name }
 
-        // A message is kept exactly where the transaction is open.
+        // A message is kept exactly if the transaction is open.
         ensures kept { is_some (message_at self.now.at name) ≡ is_open result }
     {
         self.senders.state(name)

@@ -160,7 +160,7 @@ impl Receiver {
 
         ensures same { IsSameReceiver self.old self.new }
 
-        // Memory runs out only where some is taken.
+        // Memory runs out only if some is taken.
         ensures memory { OnErr result
             (grows (part_received (option_map (λ h. as_written (telemetry h [])) head) self.old
             (part_named source (piece part.now)) now).1 ≡ true) }

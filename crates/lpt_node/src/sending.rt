@@ -90,7 +90,7 @@ impl Node {
         Ok(())
     }
 
-    // Closes an outgoing transaction where it is open.
+    // Closes an outgoing transaction if it is open.
     pub(crate) fn close(&mut self, name: Name)
         ensures at { self.new.at ≡ sender_closed self.old.at name }
         ensures side { self.new.side ≡ self.old.side }
@@ -103,7 +103,7 @@ impl Node {
     }
 }
 
-// Opens a free name with its message. Where memory runs out the message is handed back, and nothing
+// Opens a free name with its message. If memory runs out the message is handed back, and nothing
 // has changed.
 pub(crate) fn begin(
     senders: &mut Ledger,

@@ -1,5 +1,5 @@
-//! The clock, and receptions that are given up: they took no part for too long, or a caller says
-//! so.
+//! The clock, and receptions that end without their message: they took no part for too long, or a
+//! caller gives them up.
 
 ghost use Rattle.std.specs.FinMap as map;
 ghost use Rattle.std.specs.Prelude.{◌≡◌, None, Some, IfOk, IfErr, IsTrue, OnOk, OnErr, is_some, true};
@@ -54,9 +54,9 @@ impl Node {
         self.clock -= ticks;
     }
 
-    /// Gives the reception up that is due: of those that took no part for as long as the timeout,
-    /// the one that has waited longest, and of equal ones the one with the least name. The
-    /// spacecraft makes a report of it.
+    /// Ends the reception that is due: of those that took no part for as long as the timeout, the
+    /// one that has waited longest, and of equal ones the one with the least name. The spacecraft
+    /// makes a report of it.
     ///
     /// Errors, with nothing changed, the first that applies: `NothingDue`, no reception is overdue;
     /// `Memory`.
@@ -77,7 +77,7 @@ impl Node {
         self.end_reception(name)
     }
 
-    /// Gives the open reception of this name up before its time, as `expire` does one that is due.
+    /// Gives the open reception of this name up before its time, as `expire` ends one that is due.
     /// The spacecraft makes a report of it.
     ///
     /// Errors, with nothing changed, the first that applies: `NotOpen`, no reception of the name is
@@ -99,7 +99,7 @@ impl Node {
         self.end_reception(name)
     }
 
-    // Ends the open reception of this name, with a report of it where the node makes one.
+    // Ends the open reception of this name, with a report of it if the node makes one.
     fn end_reception(&mut self, name: Name) -> Result<Expired, NodeFault>
         requires { is_some (map.get self.old.at.receiving.entries name) ≡ true }
         ensures ok { IfOk result (λ r. (self.new.at, r)

@@ -126,7 +126,7 @@ impl Node {
         ensures err { OnErr result (self.new.at ≡ self.old.at) }
         ensures kept { OnErr result (memories.new ≡ memories.old) }
 
-        // Memory runs out only where there is a report.
+        // Memory runs out only if there is a report.
         ensures memory { OnErr result (refusal_apply self.old.at ≡ None
             → front_reports self.old.config self.old.at memories.old (head_of self.old.at.jobs.jobs)
             ≢ []) }
@@ -170,7 +170,7 @@ impl Node {
         ensures refused { IfErr result (λ e. RefusedBy (refusal_apply self.old.at) e) }
         ensures err { OnErr result (self.new.at ≡ self.old.at) }
 
-        // Memory runs out only where there is a report.
+        // Memory runs out only if there is a report.
         ensures memory { OnErr result (refusal_apply self.old.at ≡ None
             → reports_given self.old.config self.old.at octets.now (head_of self.old.at.jobs.jobs)
             ≢ []) }
@@ -229,7 +229,7 @@ impl Node {
         ensures refused { IfErr result (λ e. RefusedBy (refusal_apply self.old.at) e) }
         ensures err { OnErr result (self.new.at ≡ self.old.at) }
 
-        // Memory runs out only where there is a report.
+        // Memory runs out only if there is a report.
         ensures memory { OnErr result (refusal_apply self.old.at ≡ None
             → reports_refused code (head_of self.old.at.jobs.jobs) ≢ []) }
     {

@@ -15,7 +15,7 @@ use Rattle.lpt_outcomes.specs.Requests.{nothing_told}
 abbrev pub untold : List Asked → Key → Option Outcome
 untold requests k = if list_any (has_key k) requests then Some nothing_told else None
 
--- what was told on them, where they are there, with one more report
+-- what was told on them, if they are there, with one more report
 abbrev pub heard_at : Key → ReportNews → Option Outcome → Option Outcome
 heard_at k n o = if same_key (reported_key n) k then option_map (λ x. outcome_told x n) o else o
 
@@ -33,7 +33,7 @@ outcomes_joined before after = record {
   failure = option_or before.failure after.failure;
 }
 
--- a request with what was told on it, where that is there
+-- a request with what was told on it, if that is there
 abbrev pub with_told : Asked → Option Outcome → Asked
 with_told a None = a
 with_told a (Some o) = record a { outcome = outcomes_joined a.outcome o }

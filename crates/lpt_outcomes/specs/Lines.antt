@@ -66,7 +66,7 @@ notice_said (Code code) =
     ∷ Alone (codes "failure") (sentence code) ∷ []
 notice_said Unread = Alone (codes "failure") (codes "failed, code not read") ∷ []
 
--- the failure, where one was
+-- the failure, if one was
 abbrev pub failure_said : Option FailureNotice → List Item
 failure_said None = []
 failure_said (Some notice) = notice_said notice
@@ -84,8 +84,8 @@ nothing_text Json = []
 abbrev pub unasked_said : List Item
 unasked_said = Alone (codes "acknowledgement") (codes "not acknowledged") ∷ []
 
--- what is open of a request that didn't fail: all, where it asks for no report of success, or
--- where nothing was reported
+-- what is open of a request that didn't fail: all, if it asks for no report of success, or
+-- if nothing was reported
 abbrev pub pending_text : Form → Asked → List ℕ
 pending_text form a =
     if is_some a.outcome.failure then []
@@ -95,7 +95,7 @@ pending_text form a =
 
 -- ---- the lines
 
--- how many requests have a source and a request ID, where it isn't one alone
+-- how many requests have a source and a request ID, if it isn't one alone
 abbrev pub shared_said : ℕ → List Item
 shared_said n = if nat_lt 1 n then Number (codes "shared by") (codes "sharers") n ∷ [] else []
 

@@ -66,7 +66,7 @@ told_by o subtype None =
 abbrev pub outcome_told : Outcome → ReportNews → Outcome
 outcome_told o n = told_by o n.subtype n.report.failure
 
--- a request with it, where the report is on this one
+-- a request with it, if the report is on this one
 abbrev pub news_heard : ReportNews → Asked → Asked
 news_heard n a =
     if same_key (reported_key n) (key_of a) then (record a { outcome = outcome_told a.outcome n })

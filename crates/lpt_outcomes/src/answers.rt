@@ -28,7 +28,7 @@ pub(crate) fn untold(
     Ok(outcomes)
 }
 
-// Takes what a report tells, where the request that it is on is there.
+// Takes what a report tells, if the request that it is on is there.
 pub(crate) fn hear(outcomes: &mut BTreeMap<Key, Outcome>, news: &ReportNews)
     ensures { (k : Key) → get key_cmp outcomes.new k
         ≡ heard_at k news.now (get key_cmp outcomes.old k) }

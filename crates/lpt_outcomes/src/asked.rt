@@ -50,7 +50,7 @@ impl Asked {
         }
     }
 
-    // Takes what was told on it, where that is there.
+    // Takes what was told on it, if that is there.
     pub(crate) fn answer(&mut self, outcomes: &BTreeMap<Key, Outcome>)
         ensures { self.new ≡ answered_by outcomes.now self.old }
     {

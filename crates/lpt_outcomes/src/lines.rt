@@ -87,7 +87,7 @@ fn flag(alloc: Global, form: Form, word: &str, is: bool) -> Result<String, Alloc
     }
 }
 
-// The failure, where one was reported.
+// The failure, if one was reported.
 fn failure(alloc: Global, form: Form, notice: Option<FailureNotice>) -> Result<String, AllocError>
     ensures { IfOk result (λ t. string_bytes t ≡ items_text form (failure_said notice)) }
 {
@@ -171,7 +171,7 @@ fn nothing_yet(form: Form) -> &'static str
     }
 }
 
-// How many requests have this request ID, where it isn't one alone.
+// How many requests have this request ID, if it isn't one alone.
 fn shared_text(alloc: Global, form: Form, sharers: u64) -> Result<String, AllocError>
     ensures { IfOk result (λ t. string_bytes t ≡ items_text form (shared_said sharers)) }
 {

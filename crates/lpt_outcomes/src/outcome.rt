@@ -25,7 +25,7 @@ impl Outcome {
     ghost use Rattle.lpt_outcomes.specs.Lines.{is_told};
     ghost use Rattle.lpt_outcomes.specs.Done.{has_last};
 
-    // Before any report.
+    // The outcome before any report.
     pub(crate) fn new() -> Outcome
         ensures { result ≡ nothing_told }
     {
@@ -37,7 +37,7 @@ impl Outcome {
         }
     }
 
-    // With what one more report tells.
+    // The outcome with what one more report tells.
     pub(crate) fn with_news(self, news: &ReportNews) -> Outcome
         ensures { result ≡ outcome_told self news.now }
     {
@@ -51,7 +51,7 @@ impl Outcome {
         outcome
     }
 
-    // With what was told after.
+    // The outcome with what was told after.
     pub(crate) fn with_later(self, after: &Outcome) -> Outcome
         ensures { result ≡ outcomes_joined self after.now }
     {
@@ -70,7 +70,7 @@ impl Outcome {
         self.accepted || self.started || self.completed || self.failure.is_some()
     }
 
-    // Whether the last report of success that these flags ask for has come: never, where they ask
+    // Whether the last report of success that these flags ask for has come: never, if they ask
     // for none.
     pub(crate) fn has_last(&self, flags: u8) -> bool
         ensures { result ≡ has_last flags self.now }

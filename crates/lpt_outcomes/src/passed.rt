@@ -38,7 +38,7 @@ impl Passed {
     ghost use Rattle.lpt_outcomes.specs.declared.passed.Beside.{Beside};
     ghost use Rattle.lpt_outcomes.specs.Passing.{is_nothing, IsPassed};
 
-    // Of nothing.
+    // What is passed over of a stream from which nothing came.
     pub(crate) fn new() -> Passed
         ensures { IsPassed [] result }
     {

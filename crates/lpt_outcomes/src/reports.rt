@@ -18,9 +18,9 @@ use std::alloc::Global;
 use std::collections::BTreeMap;
 
 /// Tells requests of the verification reports of this layout among the packets of a stream, one
-/// after the other: each is told of all requests whose source is its destination and that have its
-/// request ID, by which it is looked up. What is none is counted, but for idle packets and other
-/// telemetry.
+/// after the other: a report counts for all requests whose source is its destination and that have
+/// its request ID, by which they are looked up. What is no such report is counted as passed over,
+/// but for idle packets and other telemetry.
 ///
 /// Errors: `Read` if a read failed, or if 2^64 - 1 pieces came; `Memory`. The requests are
 /// unchanged.

@@ -36,6 +36,6 @@ coded_name =
     code_by (ℕ × ℕ) (coded× coded_ℕ coded_ℕ)
     (λ n. (n.source, n.id)) (λ q. record { source = q.0; id = q.1 }) (λ _. refl)
 
--- the name that is told where there is none
+-- the name that is told if there is none
 abbrev pub no_name : Name
 no_name = record { source = 0; id = 0 }

@@ -104,7 +104,7 @@ is_idle b = nat_le 7 (length b) && (word_at b 0 / 8192 == 0) && (word_at b 0 % 2
 abbrev pub is_packet : List ℕ → Bool
 is_packet b = nat_le (length b) longest_packet && nat_le (word_at b 0 % 2048) 2046 && same_octets b (spelling (fields_at b))
 
--- what octets are, where they are a packet or idle
+-- what octets are, if they are a packet or idle
 unfoldable pub packet_seen : List ℕ → Option Sight
 packet_seen b = if is_idle b then Some IdlePacket else if is_packet b
     then Some (APacket (fields_at b)) else None

@@ -39,7 +39,7 @@ pub fn read_sealed(bytes: &[u8]) -> Result<Seen<'_>, PacketFault>
     first_fault_or_sight(bytes, true)
 }
 
-// The tests of a packet, in their order; the last isn't made where it is known how it ends.
+// The tests of a packet, in their order; the last isn't made if it is known how it ends.
 #[tactic(auto, unfolding(crate::specs::Packets::verdict))]
 fn first_fault_or_sight(bytes: &[u8], is_known: bool) -> Result<Seen<'_>, PacketFault>
     requires { is_known ≡ true → verdict bytes.now ≡ Err Checksum → ⊥ }

@@ -216,7 +216,7 @@ const TABLES: [[u16; 256]; 8] = [
     ],
 ];
 
-// The register after this octet and so many octets of zeros behind it, where it is 0 before.
+// The register after this octet and so many octets of zeros behind it, if it is 0 before.
 pub(crate) fn of_octet(octet: u8, behind: usize) -> u16
     requires { behind < 8 }
     ensures { result ≡ octets_in 0 (octet ∷ replicate behind 0) }

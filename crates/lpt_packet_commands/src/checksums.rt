@@ -50,7 +50,7 @@ fn tell_short(rt: &(impl Eprint + AllocGlobal), path: &str, size: usize) {
     tell_text(rt, text);
 }
 
-// The octets that the words name, where they are there.
+// The octets that the words name, if they are there.
 fn named_in<'a>(words: &ChecksumWords<'_>, octets: &'a [u8]) -> Option<&'a [u8]> {
     let behind = octets.get(words.from as usize..)?;
     match words.len {

@@ -16,8 +16,8 @@ use std::alloc::{AllocError, Global};
 
 /// Writes a line for each area of the check reports: whether its checksum is that of the file's
 /// octets there. What is no packet, check reports that can't be read, and parts of messages are
-/// told, and the status says so. Check reports and parts of another APID are just told. The
-/// reports are read by the layouts of a file if one is given, else by the profile.
+/// told, and the status says so. Check reports and parts of another APID are just told. The reports
+/// are read by the layouts of a file if one is given, otherwise by the profile.
 ///
 /// Errors: `Read` if a file can't be opened or read, or a capture is wrong; `Config` if the
 /// layouts' file is too long; `Write`, `Memory`.
@@ -128,7 +128,7 @@ fn tell_passed(rt: &(impl Eprint + AllocGlobal), unread: u64, parts: u64) {
     }
 }
 
-// What is lacking of a comparison, where no report agrees at this address: that, or that the file
+// What is lacking of a comparison, if no report agrees at this address: that, or that the file
 // has no octets to compare.
 fn lacking(
     alloc: Global,
@@ -165,7 +165,7 @@ fn write_lines<R: Print>(
     Ok(agree)
 }
 
-// The line of an area, where the file's octets have this checksum there. The only error is out of
+// The line of an area, if the file's octets have this checksum there. The only error is out of
 // memory.
 fn line_of(
     alloc: Global,

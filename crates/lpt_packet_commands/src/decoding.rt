@@ -180,7 +180,7 @@ fn decode_segment(rt: &(impl Print + AllocGlobal), octets: &[u8]) -> Result<Stat
 
 // The text of standard input.
 //
-// Errors: `Read` where it can't be read, or has more than 16,777,216 octets; `Memory`.
+// Errors: `Read` if it can't be read, or has more than 16,777,216 octets; `Memory`.
 fn standard_text<R: Machine>(rt: &R) -> Result<Vec<u8>, Failure> {
     let mut source = open_input(rt, STANDARD)?;
     let text = text_of(rt, &mut source);
@@ -201,7 +201,7 @@ fn text_of<R: Machine>(rt: &R, source: &mut Incoming<R>) -> Result<Vec<u8>, Fail
     }
 }
 
-// The octets that a text stands for, in hexadecimal digits; none where it stands for none, after
+// The octets that a text stands for, in hexadecimal digits; none if it stands for none, after
 // standard error was told so. The only error is out of memory.
 fn octets_in(
     rt: &(impl Eprint + AllocGlobal),
@@ -240,7 +240,7 @@ fn refuse_hex(rt: &impl Eprint, place: Result<String, AllocError>) {
     tell_text(rt, place);
 }
 
-// Says on standard error where octets carry a part that isn't read for parts of `p` octets, but
+// Says on standard error if octets carry a part that isn't read for parts of `p` octets, but
 // would be for parts of its own length.
 fn tell_size(rt: &(impl Eprint + AllocGlobal), octets: &[u8], p: u32)
     requires { IsPartSize p }

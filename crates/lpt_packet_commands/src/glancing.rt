@@ -17,7 +17,7 @@ use lpt_sources::Keeping;
 use lpt_text::StreamFault;
 
 /// Writes the picture of the packets at the path of these words, `-` for standard input, by the
-/// layouts of a file if one is given, else by the profile.
+/// layouts of a file if one is given, otherwise by the profile.
 ///
 /// Errors: `Read` if a file can't be opened or read, or a capture is wrong; `Config` if the layouts'
 /// file is too long; `Write`, `Memory`.
@@ -84,7 +84,7 @@ fn glance_packets<R: Machine>(
     }
 }
 
-// Writes the picture of what was seen, where names of this source are written without it.
+// Writes the picture of what was seen. Names of this source are written without it.
 fn draw_glance(
     rt: &(impl Print + AllocGlobal),
     source: u32,

@@ -33,16 +33,16 @@ pub fn tell_hint(rt: &(impl Eprint + AllocGlobal), hint: Option<Hint>) {
     tell_other(rt, "this layout", "", hint);
 }
 
-/// The same of the packets at the front of octets. That parts would be read without a packet error
-/// control is said only if several packets fail a test and no part is read, since a damaged one
-/// may look so.
+/// Says the same of the packets at the front of octets. That parts would be read without a packet
+/// error control is said only if several packets fail a test and no part is read, since a damaged
+/// one may look so.
 pub fn tell_front(rt: &(impl Eprint + AllocGlobal), layouts: &Layouts, octets: &[u8])
     requires { SizesFit layouts.now }
 {
     tell_hint(rt, fit_hint(told_in(layouts, octets)));
 }
 
-/// The same by this project's profile.
+/// Says the same of packets of this project's profile.
 pub fn tell_own_front(rt: &(impl Eprint + AllocGlobal), octets: &[u8]) {
     let hint = fit_hint(told_in(&Layouts::own(), octets));
     tell_other(rt, "the profile", " in a file for --layout", hint);

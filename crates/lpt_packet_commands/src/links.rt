@@ -11,7 +11,8 @@ use lpt_lossy::{CrossingCounts, Dice, LossyEnd, LossyLink, Odds, lossy_stream};
 use lpt_text::StreamFault;
 
 /// Carries packets over a link that loses, and tells how many were lost, repeated and so on. Which
-/// packets have a checksum says a file of layouts if one is given, else the profile.
+/// packets have a checksum is said by a file of layouts if one is given, and otherwise by the
+/// profile.
 ///
 /// Errors: `Read` if a file can't be opened or read, or a capture is wrong; `Config` if the
 /// layouts' file is too long; `Write`, `Memory`.

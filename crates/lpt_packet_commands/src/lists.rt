@@ -22,11 +22,11 @@ use lpt_stream::whole_length;
 use lpt_terminal::{Screen, Table};
 use lpt_text::{FromStd, StreamFault};
 
-/// So many octets in front are looked at for parts of another layout.
+/// How many octets in front are looked at for parts of another layout.
 pub const FRONT: usize = 131_072;
 
-/// Lists the packets of a stream: by the layouts of a file if one is given, else by the profile. At
-/// a terminal the lines become rows of a table.
+/// Lists the packets of a stream: by the layouts of a file if one is given, otherwise by the
+/// profile. At a terminal the lines become rows of a table.
 ///
 /// Errors: `Read` if a file can't be opened or read, or a capture is wrong; `Config` if the
 /// layouts' file is too long; `Write`, `Memory`.
@@ -128,7 +128,7 @@ fn listed_to<'r, R: Machine>(
 }
 
 /// Tells by which other layout or part size parts at the front of a stream would be read that
-/// aren't by these, which are given, or are the profile's.
+/// aren't read by these layouts, which are given or are the profile's.
 pub fn tell_others(
     rt: &(impl Eprint + AllocGlobal),
     p: u32,
@@ -147,7 +147,7 @@ pub fn tell_others(
     }
 }
 
-// Tells by which part size the first part of a message would be read that isn't by this one, where
+// Tells by which part size the first part of a message would be read that isn't by this one, if
 // there is one among the packets at the front of octets.
 fn tell_size(rt: &(impl Eprint + AllocGlobal), octets: &[u8], p: u32)
     requires { IsPartSize p }
@@ -168,7 +168,7 @@ fn tell_size(rt: &(impl Eprint + AllocGlobal), octets: &[u8], p: u32)
     }
 }
 
-// The part size by which a packet would be read as the first part of a message, where it isn't by
+// The part size by which a packet would be read as the first part of a message, if it isn't by
 // this one.
 fn other_size(octets: &[u8], p: u32) -> Option<u32>
     requires { IsPartSize p }
@@ -219,7 +219,7 @@ fn list_status(rt: &(impl Eprint + AllocGlobal), voice: Voice, listed: Listed) -
     }
 }
 
-// Tells how much of a stream is no packet, where something is.
+// Tells how much of a stream is no packet, if something is.
 fn tell_tally(rt: &(impl Eprint + AllocGlobal), tally: Tally) {
     let Tally { damaged, stray } = tally;
     if damaged == 0 && stray == 0 {

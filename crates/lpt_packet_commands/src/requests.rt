@@ -21,7 +21,7 @@ use lpt_text::write_out;
 use std::alloc::{AllocError, Global};
 
 /// Writes what is asked of a memory as telecommands, one behind the other, as many as it needs: by
-/// the layouts of a file if one is given, else by the profile.
+/// the layouts of a file if one is given, otherwise by the profile.
 ///
 /// Errors: `Read` if a file can't be opened or read; `Config` if the layouts' file is too long;
 /// `Write`, `Memory`.
@@ -72,7 +72,7 @@ fn limit_of(what: &What<'_>, layouts: &Layouts) -> u16
     }
 }
 
-// What is wrong with the words by these layouts, where a request holds so many octets.
+// What is wrong with the words by these layouts, if a request holds so many octets.
 fn word_fault(
     config: &Config,
     words: &RequestWords<'_>,
@@ -157,8 +157,8 @@ fn requests_asked<R: Machine>(
     }
 }
 
-// One load of all areas, where one holds them and no other number of octets is given; else loads of
-// one area each.
+// One load of all areas, if one holds them and no other number of octets is given; otherwise loads
+// of one area each.
 fn loads(
     alloc: Global,
     words: &RequestWords<'_>,
@@ -177,7 +177,7 @@ fn loads(
     load_requests(alloc, memory, &areas, each)
 }
 
-// One request of all places, where one holds them and no other number of octets is given; else
+// One request of all places, if one holds them and no other number of octets is given; otherwise
 // requests of one place each.
 fn reads(
     alloc: Global,
@@ -211,7 +211,7 @@ fn one(alloc: Global, request: Request) -> Result<Vec<Request>, AllocError> {
     Ok(requests)
 }
 
-// Whether one load holds these areas, where it holds so many octets of one area.
+// Whether one load holds these areas, if it holds so many octets of one area.
 fn is_one_load(each: u16, areas: &[Area]) -> bool {
     let mut room = room_of(each);
     for area in areas {
@@ -223,7 +223,7 @@ fn is_one_load(each: u16, areas: &[Area]) -> bool {
     areas.len() <= AREA_LIMIT
 }
 
-// Whether one request holds these places, and one packet the answer, where it holds so many octets
+// Whether one request holds these places, and one packet the answer, if it holds so many octets
 // of one place.
 fn is_one_read(each: u16, what: Read, places: &[AreaPlace]) -> bool {
     let mut room = room_of(each);
@@ -241,12 +241,12 @@ fn is_one_read(each: u16, what: Read, places: &[AreaPlace]) -> bool {
     places.len() <= AREA_LIMIT
 }
 
-// The room for areas, where it is for so many octets of one area.
+// The room for areas, if it is for so many octets of one area.
 fn room_of(each: u16) -> u64 {
     u64::from(each) + AREA_HEADER as u64
 }
 
-// What is left of this room behind an area of so many octets, where it has room for it.
+// What is left of this room behind an area of so many octets, if it has room for it.
 fn room_behind(room: u64, octets: u64) -> Option<u64> {
     room.checked_sub(octets)?.checked_sub(AREA_HEADER as u64)
 }

@@ -17,7 +17,7 @@ use std::alloc::{AllocError, Global};
 
 /// Says what became of each request, by the reports on it, or writes the packets of those that are
 /// open, and then says what of requests and reports was passed over. Both are read by the layouts
-/// of a file if one is given, else by the profile.
+/// of a file if one is given, otherwise by the profile.
 ///
 /// Errors: `Read` if a file can't be opened or read, or a capture is wrong; `Config` if the
 /// layouts' file is too long; `Write`, `Memory`.
@@ -73,8 +73,8 @@ fn requests_at<R: Machine>(
     }
 }
 
-// Tells these requests of the reports of this layout among the packets at these paths. What was
-// passed over of those.
+// Tells these requests of the reports of this layout among the packets at these paths. Gives what
+// was passed over of those.
 fn hear_reports<R: Machine>(
     rt: &R,
     voice: Voice,
@@ -162,7 +162,7 @@ fn told_beside(
     Ok(status_of(!done || shared != 0))
 }
 
-// Tells what of the requests at this path was passed over, and where there is none at all.
+// Tells what of the requests at this path was passed over, and if there is none at all.
 fn tell_among_requests(rt: &(impl Eprint + AllocGlobal), path: &str, requests: &Requests) {
     let Passed {
         parts,

@@ -33,6 +33,6 @@ abort_verdict body =
     else Err AbortBody)
     else Err AbortBody
 
--- what an abortion report's body says, where it is one
+-- what an abortion report's body says, if it is one
 abbrev pub abort_in : List ℕ → Option (TransactionId × Reason)
 abort_in body = result_ok (abort_verdict body)

@@ -77,7 +77,7 @@ abbrev pub Gives : ℕ → Result Part PartFault → Result Piece PartFault → 
 Gives p (Ok t) v = (v ≡ Ok (piece t)) × (t.p ≡ p)
 Gives p (Err e) v = v ≡ Err e
 
--- the part that a body is, where it is one
+-- the part that a body is, if it is one
 abbrev pub part_in : ℕ → Kind → List ℕ → Option Piece
 part_in p kind body = result_ok (part_verdict kind body p)
 

@@ -10,7 +10,7 @@ IsOfGroundIn log m =
     ((k : ℕ) × (slice_get log k ≡ Some (Asked m)))
     ⊎ ((k : ℕ) × (name : Name) × (slice_get log k ≡ Some (Opened Up name m)))
 
--- each request that a log has as executed is ground's, where each of its facts was due
+-- each request that a log has as executed is ground's, if each of its facts was due
 abbrev pub ExecutedWasAsked : Type 0
 ExecutedWasAsked =
     (log : Log) (k : ℕ) (m : List ℕ)

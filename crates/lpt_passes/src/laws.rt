@@ -15,8 +15,9 @@ pub fn heard_dump_is_memory()
     ensures { HeardDumpIsMemory }
 {}
 
-/// So does one that came down in parts, and was released to ground: if the spacecraft's program
-/// opened no dump report to this source by itself.
+/// A dump report that came down in parts, and was released to ground, also holds the octets that
+/// the memories had when the dump was executed, if the spacecraft's program opened no dump report
+/// to this source by itself.
 pub fn joined_dump_is_memory()
     ensures { JoinedDumpIsMemory }
 {}
@@ -28,9 +29,9 @@ pub fn executed_was_asked()
 {}
 
 /// Take an image and ground's requests to load it, each of a source and request ID that no other
-/// request has. If a report of the completion of each could be heard at some moment, as the
-/// spacecraft had put it out, and nothing else was loaded into the range since the first of them,
-/// the memory has the image there.
+/// request has. If a report of the start or the completion of each could be heard at some moment,
+/// as the spacecraft had put it out, and nothing else was loaded into the range since the first of
+/// them, the memory has the image there.
 pub fn passes_leave_the_image()
     ensures { PassesLeaveTheImage }
 {}

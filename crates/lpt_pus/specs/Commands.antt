@@ -78,7 +78,7 @@ tc_verdict f =
     (slice_index f.octets 0 / 16 == 2)
     (command_at f)
 
--- the telecommand that octets are, where they are the packet of one with this APID
+-- the telecommand that octets are, if they are the packet of one with this APID
 unfoldable pub command_in : ℕ → List ℕ → Option Command
 command_in apid b = in_packet (λ f. for_apid (λ c. c.apid) apid (tc_verdict f)) (packet_seen b)
 

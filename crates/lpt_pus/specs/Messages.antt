@@ -17,7 +17,7 @@ headers_tested of_type long of_version message =
     else Err ShortHeader)
     else Err WrongType
 
--- the message that was read, where it has this APID
+-- the message that was read, if it has this APID
 abbrev pub for_apid : {X : Type 0} → (X → ℕ) → ℕ → Result X PusFault → Option X
 for_apid apid_of apid (Ok message) = if apid_of message == apid then Some message else None
 for_apid apid_of apid (Err e) = None
@@ -33,7 +33,7 @@ abbrev pub Gives : {X Y : Type 0} → (X → Y) → Result X PusFault → Result
 Gives view (Ok x) v = v ≡ Ok (view x)
 Gives view (Err e) v = v ≡ Err e
 
--- what a writer made is these octets; they are too long exactly where they are more than a packet
+-- what a writer made is these octets; they are too long exactly if they are more than a packet
 -- has; otherwise memory may have run out
 abbrev pub Writes : Result (List ℕ) PusFault → List ℕ → Type 0
 Writes (Ok o) s = (length s ≤ longest_packet) × (o ≡ s)

@@ -93,7 +93,7 @@ tm_verdict f =
     (slice_index f.octets 0 / 16 == 2)
     (telemetry_at f)
 
--- the telemetry that octets are, where they are the packet of it with this APID
+-- the telemetry that octets are, if they are the packet of it with this APID
 unfoldable pub telemetry_in : ℕ → List ℕ → Option Telemetry
 telemetry_in apid b = in_packet (λ f. for_apid (λ t. t.apid) apid (tm_verdict f)) (packet_seen b)
 

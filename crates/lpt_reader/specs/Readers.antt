@@ -138,7 +138,7 @@ IsRight (shown.End e) fed t v =
     TellsWhole (cut_by v.sealed) fed t × (v.ended ≡ true)
     × (e.place ≡ t.place) × (e.stray ≡ t.stray)
 
--- a packet that is shown, with these octets, has no wrong checksum, where a cut looks at checksums
+-- a packet that is shown, with these octets, has no wrong checksum, if a cut looks at checksums
 abbrev pub IsShownSealed : Cut → Shown → List ℕ → Type 0
 IsShownSealed c (shown.Piece i) b = IsSealedBy c i.kind b
 IsShownSealed c shown.Open b = Unit {0}

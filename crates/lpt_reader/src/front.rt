@@ -73,7 +73,7 @@ fn framed_in(octets: &[u8], in_step: bool, is_end: bool) -> Option<Found>
     })
 }
 
-// How many octets the packet in front has, where one has come whole.
+// How many octets the packet in front has, if one has come whole.
 fn frame_in(near: &[u8], in_step: bool) -> Option<usize>
     ensures some { IfSome result (λ n. (begins_by Cut.Framed in_step near.now ≡ true)
         × (n ≡ 7 + word_at near.now 4) × (n ≤ length near.now)) }

@@ -17,7 +17,7 @@ const ROOM: usize = 2_049;
 /// packets.
 #[derive(Drop)]
 pub struct Reader {
-    // Whether it is cut by checksums; else by lengths.
+    // Whether it is cut by checksums; otherwise by lengths.
     sealed: bool,
     // What was fed.
     octets: Vec<u8>,
@@ -42,7 +42,8 @@ impl Reader {
     ghost use Rattle.lpt_reader.specs.Items.{Telling, untold};
     ghost use Rattle.lpt_reader.specs.Readers.{new_state, fed_with, over, behind_piece, state_of, strays_by, told_by, HasTold, IsInFront, IsRight, IsShownSealed, IsUnsettled};
 
-    /// A reader of a stream that begins, cut by checksums, or else by lengths alone.
+    /// A reader of a stream that begins, cut by checksums if it is `sealed`, and otherwise by
+    /// lengths alone.
     pub fn new(alloc: Global, sealed: bool) -> Reader
         ensures state { state_of result ≡ new_state sealed }
         ensures told { HasTold [] untold (state_of result) }

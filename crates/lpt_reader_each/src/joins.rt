@@ -32,10 +32,10 @@ pub struct Joins {
 }
 
 impl Joins {
-    /// Nothing came yet of a stream whose parts are read so. A message is given if it is a packet
-    /// of the layout and the direction, or with `any` whatever it is; by a layout without a
-    /// checksum, but with `any`, only if its parts came in their order, and few sequence counts are
-    /// missing between them.
+    /// Joins of a stream whose parts are read so, and of which nothing came yet. A message is given
+    /// if it is a packet of the layout and the direction, or with `any` whatever it is; by a layout
+    /// without a checksum, but with `any`, only if its parts came in their order, and few sequence
+    /// counts are missing between them.
     pub fn new(alloc: Global, reading: &Reading, any: bool) -> Joins
         ensures reading { result.reading ≡ reading.now }
         ensures any { result.any ≡ any }

@@ -10,7 +10,7 @@ ghost use Rattle.lpt_reader_each.specs.Joins.{HasJoined, IsLeaving};
 ghost use Rattle.lpt_reader_each.specs.Told.{TellsEach, packets_in};
 ghost use Rattle.lpt_reader_each.specs.declared.joins.Joins.{Joins};
 
-/// Where the stream ends, what was joined goes on to what is left of each name.
+/// At the end of the stream, what was joined goes on to what is left of each name.
 pub fn leaving_begins()
     ensures { (j : Joins) (entries : List Entry) (es : List Event)
         → HasJoined entries es j → IsLeaving entries es j }

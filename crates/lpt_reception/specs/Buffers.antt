@@ -1,7 +1,7 @@
 -- What is written into a reception's octets.
 use Rattle.std.specs.Prelude.{ℕ, ◌+◌, ◌-◌, List, ◌++◌, length, take, drop, replicate}
 
--- the octets, with zeros behind them where they are fewer than n
+-- the octets, with zeros behind them if they are fewer than n
 abbrev pub octets_padded : List ℕ → ℕ → List ℕ
 octets_padded xs n = xs ++ replicate (n - length xs) 0
 

@@ -3,12 +3,12 @@ use Rattle.std.specs.Prelude.{◌≡◌, ℕ, ◌<◌, ◌≤◌, true, false, O
 use Rattle.std.specs.FinMap as map
 use Rattle.lpt_reception.specs.Received.{Kept, Parts, is_last}
 
--- this is the number of the last part that was kept; where there is no number none was
+-- this is the number of the last part that was kept; if there is no number none was
 abbrev pub IsLastNumber : Parts → Option ℕ → Type 0
 IsLastNumber s None = (n : ℕ) (x : Kept) → map.get s n ≡ Some x → is_last x ≡ false
 IsLastNumber s (Some n) = IsSomeAnd (map.get s n) (λ x. is_last x ≡ true)
 
--- a number of 16 bits before that of the last part, where one was kept
+-- a number of 16 bits before that of the last part, if one was kept
 pub record IsInner (s : Parts) (n : ℕ) : Type 0 where
   pub fits : n < 65536
   pub inner : (l : ℕ) (x : Kept) → map.get s l ≡ Some x → is_last x ≡ true → n < l

@@ -90,7 +90,7 @@ impl Buffer {
     }
 }
 
-// Makes room for so many octets. Where there is too little it asks for twice as much, so that a
+// Makes room for so many octets. If there is too little it asks for twice as much, so that a
 // buffer grows few times, but for no more than the longest message takes.
 fn make_room(buffer: &mut Vec<u8>, so_many: usize) -> Result<(), AllocError>
     requires fits { so_many ≤ longest_packet }
@@ -107,7 +107,7 @@ fn make_room(buffer: &mut Vec<u8>, so_many: usize) -> Result<(), AllocError>
     buffer.reserve_exact(more - buffer.len())
 }
 
-// Puts zeros behind the octets where they are fewer than so many, for which there is room. It owns
+// Puts zeros behind the octets if they are fewer than so many, for which there is room. It owns
 // the buffer, so that a compiler sees that no octet changes its length, and fills it at once.
 fn pad(mut buffer: Vec<u8>, so_many: usize) -> Vec<u8>
     requires { so_many ≤ vec_capacity buffer }

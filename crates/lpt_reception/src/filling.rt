@@ -52,7 +52,7 @@ impl Filling {
           parts = with_part no_parts part.now.number (part_kept part.now);
         }) }
 
-        // A part contradicts no other where there is none, and alone it is no whole message.
+        // A part contradicts no other if there is none, and alone it is no whole message.
         ensures alone { IsNew no_parts part.now.number (part_kept part.now) }
         ensures not_whole { is_whole (with_part no_parts part.now.number (part_kept part.now))
             ≡ false }
@@ -89,7 +89,7 @@ impl Filling {
     }
 
     /// The least number from `from` on, and from 1 on, whose part wasn't kept and stands before the
-    /// last part, if that was kept; else all up to 65,535 are looked at. `None` if there is
+    /// last part, if that was kept; otherwise all up to 65,535 are looked at. `None` if there is
     /// none.
     pub fn next_missing(&self, from: u16) -> Option<u16>
         ensures { IsNextMissing self.now.parts from result }
@@ -107,8 +107,8 @@ impl Filling {
         self.accept_in(Mode::Any, part)
     }
 
-    /// The same in the order of the parts' numbers: one that is neither kept nor the next breaks the
-    /// reception off.
+    /// Does the same in the order of the parts' numbers: one that is neither kept nor the next
+    /// breaks the reception off.
     pub fn accept_strict(self, part: &Part<'_>) -> Step
         requires id { part.now.id ≡ self.id }
         requires p { part.now.p ≡ self.p }

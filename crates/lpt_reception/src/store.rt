@@ -86,7 +86,7 @@ impl Store {
         }
     }
 
-    // The highest number of a part, 0 where there is none.
+    // The highest number of a part, 0 if there is none.
     fn top(&self, p: u32) -> u32
         requires { IsSound p self.now }
         ensures { result ≡ top p self.now.octets }

@@ -32,7 +32,7 @@ pub record GoesOn (c : Config) (first : Contents) (s : State) (h : History) (e :
   pub answered : (after c (length h) s e).1 ≡ reply c first h e
   pub shown : Shows (after c (length h) s e).0 (views c first (entry c first h e ∷ h))
 
--- where nothing has happened, the empty journal is shown; what shows a journal that fits refuses what
+-- if nothing has happened, the empty journal is shown; what shows a journal that fits refuses what
 -- the journal refuses, and goes on with it
 pub record FollowsJournal : Type 0 where
   pub begins : (c : Config) (first : Contents) → Shows (no_state c first) (views c first [])

@@ -48,7 +48,7 @@ abbrev pub closed_mark : Bool → Option Mark
 closed_mark true = Some Shut
 closed_mark false = None
 
--- the open reception of these parts and last tick, where there are any
+-- the open reception of these parts and last tick, if there are any
 abbrev pub entry_of : Parts → ℕ → Option TableEntry
 entry_of s last = if has_parts s then Some (record { parts = s; last = last }) else None
 
@@ -88,7 +88,7 @@ pub record ShowsEnd (side : Side) (d : NodeData) (y : EndView) : Type 0 where
   pub clock : d.clock ≡ y.clock
   pub boot : d.boot ≡ y.boot
 
--- a packet is held where it was put and isn't lost; none is lost before it is put
+-- a packet is held if it was put and isn't lost; none is lost before it is put
 pub record ShowsLink (x : LinkData) (y : LinkView) : Type 0 where
   pub packets : map sent_packet x.packets ≡ y.sent
   pub tags : map (λ p. p.tag) x.packets ≡ y.tags

@@ -103,7 +103,7 @@ PassLeavesTheImage =
 
 -- ---- a range that stays
 
--- Where a range is the image, it is so before and after each of these requests, none of which loads
+-- If a range is the image, it is so before and after each of these requests, none of which loads
 -- anything else into it.
 abbrev pub RangeStays : Type 0
 RangeStays =

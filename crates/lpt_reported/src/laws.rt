@@ -11,7 +11,8 @@ pub fn reports_are_of_executions()
     ensures { ReportsAreOfExecutions }
 {}
 
-/// So is telemetry that an execution opened as a large message, since it is too long for the link.
+/// Telemetry that an execution opened as a large message, since it is too long for the link, is a
+/// report of a request that was executed, too.
 pub fn opened_reports_are_of_executions()
     ensures { OpenedReportsAreOfExecutions }
 {}
@@ -42,7 +43,8 @@ pub fn dumped_is_memory()
     ensures { DumpedIsMemory }
 {}
 
-/// So does a report of a dump that the execution opened as a large message.
+/// A report of a dump that the execution opened as a large message holds the octets that the
+/// memories had when the dump was executed, too.
 pub fn opened_dump_is_memory()
     ensures { OpenedDumpIsMemory }
 {}
@@ -54,8 +56,8 @@ pub fn loads_leave_the_image()
     ensures { LoadsLeaveTheImage }
 {}
 
-/// So it does over all that was executed, of which those from some place on are such requests: what
-/// came before may be anything.
+/// If, of all that was executed, those from some place on are such requests, the range is the
+/// image: what came before may be anything.
 pub fn pass_leaves_the_image()
     ensures { PassLeavesTheImage }
 {}

@@ -68,7 +68,7 @@ ArePlacesCut each (p ∷ places) ranges =
 
 -- ---- faults
 
--- the fault of so many octets at an address, where there is one: none, or more than addresses are
+-- the fault of so many octets at an address, if there is one: none, or more than addresses are
 -- left
 abbrev pub place_fault : (address len : ℕ) → Option CutFault
 place_fault address len =

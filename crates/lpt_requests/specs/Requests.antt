@@ -35,7 +35,7 @@ range_fault ranges =
     if length ranges == 0 || nat_lt area_limit (length ranges) || any_empty ranges then Some BadArea
     else None
 
--- the octets mean that dump, in all memories that it is within, where its answer fits a packet
+-- the octets mean that dump, in all memories that it is within, if its answer fits a packet
 abbrev pub MeansDump : ℕ → List ℕ → ℕ → List AreaRange → Type 0
 MeansDump apid octets id ranges =
     (sizes : Sizes) (size : ℕ) → size_of id sizes ≡ Some size → RangesFit size ranges
@@ -73,7 +73,7 @@ request_packet apid source count flags request = spelling (packet_of (record {
   body = request_text request;
 }))
 
--- the first fault, where there is one
+-- the first fault, if there is one
 abbrev pub request_fault : Request → Option MemoryFault
 request_fault (Load memory areas) = write_fault areas.items
 request_fault (Dump memory ranges) = range_fault ranges.items

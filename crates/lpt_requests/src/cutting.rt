@@ -31,7 +31,7 @@ pub fn load_requests(
     ensures cut { IfOk result (λ v. (pieces : List Area) × AreasCut each areas.now pieces
         × (map view v.items ≡ map (as_load memory) pieces)) }
 
-    // The fault is the first; memory can run out only where there is none.
+    // The fault is the first; memory can run out only if there is none.
     ensures fault { IfSome (areas_fault areas.now) (λ e. result ≡ Err e) }
     ensures memory { IfNone (areas_fault areas.now) (IfErr result (λ e. e ≡ Memory)) }
 {
@@ -58,7 +58,7 @@ pub fn areas_fault(areas: &[Area]) -> Option<CutFault>
     None
 }
 
-// The fault of a place of so many octets, where there is one.
+// The fault of a place of so many octets, if there is one.
 pub(crate) fn place_fault(address: u32, len: u64) -> Option<CutFault>
     ensures { result ≡ place_fault address len }
 {

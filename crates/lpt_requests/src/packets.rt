@@ -14,7 +14,7 @@ use std::alloc::Global;
 /// The packets of requests, as `write_request` makes them, in their order. The sequence counts go
 /// on from the first one, and from 16,383 to 0.
 ///
-/// Errors: the first fault of a request, as there; if there is none, `Memory`.
+/// Errors: the first fault of a request, as `write_request` gives it; if there is none, `Memory`.
 pub fn write_requests(
     alloc: Global,
     apid: u16,
@@ -31,7 +31,7 @@ pub fn write_requests(
     // What is written means those requests, in memories where they fit.
     ensures means { IfOk result (λ v. AllMean apid v.items (map view requests.now)) }
 
-    // The fault is the first, where memory doesn't run out before.
+    // The fault is the first, if memory doesn't run out before.
     ensures none { IsOk result → first_fault requests.now ≡ None }
     ensures fault { IfErr result (λ e. (e ≡ Memory) ⊎ (first_fault requests.now ≡ Some e)) }
 {

@@ -18,7 +18,7 @@ const BODY_HEAD: usize = 2;
 
 const RANGE: usize = 6;
 
-// The fault of a dump or a check of these places, where there is one.
+// The fault of a dump or a check of these places, if there is one.
 pub(crate) fn ranges_fault(ranges: &[Range]) -> Option<MemoryFault>
     ensures { result ≡ range_fault ranges.now }
 {

@@ -49,7 +49,7 @@ pub fn read_requests(
     ensures cut { IfOk result (λ v. (ranges : List AreaRange) × ArePlacesCut each places.now ranges
         × (map view v.items ≡ map (as_read what memory) ranges)) }
 
-    // The fault is the first; memory can run out only where there is none.
+    // The fault is the first; memory can run out only if there is none.
     ensures fault { IfSome (places_fault places.now) (λ e. result ≡ Err e) }
     ensures memory { IfNone (places_fault places.now) (IfErr result (λ e. e ≡ Memory)) }
 {

@@ -36,7 +36,7 @@ pub fn write_request(
     // What is written means that request, in memories where it fits.
     ensures means { IfOk result (λ o. Means apid o request.now) }
 
-    // The fault is the first; memory can run out only where there is none.
+    // The fault is the first; memory can run out only if there is none.
     ensures fault { IfSome (request_fault request.now) (λ e. result ≡ Err e) }
     ensures memory { IfNone (request_fault request.now) (IfErr result (λ e. e ≡ Memory)) }
 {

@@ -83,7 +83,7 @@ LinesLeave later had w end left old new before after =
     (λ text. LinesEnd (script_ran later w text) (Ok end) before after
     × (lines_left later (lines text) w 1 had ≡ left))
 
--- how such a run ends where each line is run in its place
+-- how such a run ends if each line is run in its place
 abbrev pub ScriptEnds :
     Shown → Result ScriptEnd ScriptFault
     → (read_before read_after written_before written_after : Option (List ℕ))
@@ -94,7 +94,7 @@ ScriptEnds = RunEnds false
 abbrev pub Grows : Option (List ℕ) → Option (List ℕ) → Type 0
 Grows old new = (more : List ℕ) × Appends old new more
 
--- the same where nothing was refused
+-- the same if nothing was refused
 abbrev pub none_refused : Result Unit StreamFault → Result (Option StepFault) StreamFault
 none_refused (Ok done) = Ok None
 none_refused (Err fault) = Err fault

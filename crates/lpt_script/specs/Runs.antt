@@ -12,13 +12,13 @@ use Rattle.lpt_script.specs.declared.fault.ScriptFault.{ScriptFault}
 use Rattle.lpt_script.specs.declared.fault.ScriptFault.TheVariants.{Stream, Line}
 
 -- what lines leave: how many were refused, the number of the unreadable one that ended them, and what is
--- left where none did
+-- left if none did
 pub record RunLeft : Type 0 where
   pub refused : ℕ
   pub bad : Option ℕ
   pub left : Option Left
 
--- what is left where no line ended the others
+-- what is left if no line ended the others
 abbrev pub unless_bad : Option ℕ → Left → Option Left
 unless_bad None left = Some left
 unless_bad (Some n) left = None

@@ -29,7 +29,7 @@ use Rattle.lpt_world.specs.Worlds.{Shown, history, memories_now, refusal_at, wit
 use Rattle.lpt_world.specs.Outside.{octets_of}
 
 -- what a line leaves: the world after it, what it printed, why an event was refused, if one was, and its
--- own number where it is unreadable
+-- own number if it is unreadable
 pub record Ran : Type 0 where
   pub world : Shown
   pub text : List ℕ
@@ -68,12 +68,12 @@ event_stepped w e = stepped_as w e (refusal_at w 0 e)
 abbrev pub lines_joined : Ran → Ran → Ran
 lines_joined first second = record second { text = first.text ++ second.text }
 
--- the second, where the first was not refused
+-- the second, if the first was not refused
 abbrev pub unless_refused : Option StepFault → Ran → (Shown → Ran) → Ran
 unless_refused (Some fault) first second = first
 unless_refused None first second = lines_joined first (second first.world)
 
--- two events, of which the second happens where the first was not refused
+-- two events, of which the second happens if the first was not refused
 abbrev pub and_then : Ran → (Shown → Ran) → Ran
 and_then first second = unless_refused first.refused first second
 
@@ -92,17 +92,17 @@ job_worked w =
     and_then (and_then (event_stepped w (Claim W1)) (λ after. event_stepped after (Commit W1)))
     (λ after. event_stepped after Apply)
 
--- so many octets from an address on, where they lie within the content
+-- so many octets from an address on, if they lie within the content
 abbrev pub octets_from : (address len : ℕ) → List ℕ → Option (List ℕ)
 octets_from address len content =
     if nat_le (address + len) (length content) then Some (take len (drop address content)) else None
 
--- so many octets of a memory from an address on, where there is such a memory and they lie within it
+-- so many octets of a memory from an address on, if there is such a memory and they lie within it
 abbrev pub memory_octets : Shown → (id address len : ℕ) → Option (List ℕ)
 memory_octets w id address len =
     option_and_then (octets_from address len) (content_of id (memories_now w))
 
--- what is printed of a world where a line asks for this
+-- what is printed of a world if a line asks for this
 abbrev pub show_text : Show → Shown → List ℕ
 show_text show.Released w = releases_text w.config.source (releases w.config (history w))
 show_text (show.Packet n) w = packet_text n (octets_of w n)
@@ -138,13 +138,13 @@ abbrev pub asks : Option Command → Reading
 asks (Some c) = Asks c
 asks None = Skipped
 
--- what a line says, where lines that show may be left for later
+-- what a line says, if lines that show may be left for later
 abbrev pub says_now : (later : Bool) → Reading → Reading
 says_now later Skipped = Skipped
 says_now later (Asks c) = asks (now_done later c)
 says_now later Unreadable = Unreadable
 
--- the same by the line's octets, where this source is configured
+-- the same by the line's octets, if this source is configured
 abbrev pub says : (later : Bool) → (source : ℕ) → List ℕ → Reading
 says later source line = says_now later (reading_of source line)
 

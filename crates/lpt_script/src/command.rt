@@ -107,7 +107,7 @@ fn put_last<K: Sink>(
     put_entry(text, world.config().source, last, out)
 }
 
-// Prints what an accepted event answered, where this source is configured.
+// Prints what an accepted event answered, if this source is configured.
 #[inline(always)]
 fn put_entry<K: Sink>(
     text: &mut String,

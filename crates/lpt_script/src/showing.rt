@@ -113,7 +113,7 @@ fn show_clear<K: Sink>(
     put(out, print_clear(alloc, world.is_clear(direction, name)))
 }
 
-// So many octets of a memory from an address on, where it is there and they lie within it.
+// So many octets of a memory from an address on, if it is there and they lie within it.
 fn octets_of(world: &World, id: u8, address: u32, len: u32) -> Option<&[u8]>
     ensures { option_map (λ x. x.now) result ≡ memory_octets world.now id address len }
 {
@@ -123,7 +123,7 @@ fn octets_of(world: &World, id: u8, address: u32, len: u32) -> Option<&[u8]>
     }
 }
 
-// So many octets from an address on, where they lie within the content.
+// So many octets from an address on, if they lie within the content.
 fn octets_from(content: &[u8], address: u32, len: u32) -> Option<&[u8]>
     ensures { option_map (λ x. x.now) result ≡ octets_from address len content.now }
 {

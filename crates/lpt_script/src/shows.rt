@@ -16,7 +16,7 @@ pub enum Shows {
 }
 
 impl Shows {
-    /// None was kept yet.
+    /// What is for later, of which nothing was kept yet.
     pub fn later(alloc: Global) -> Self
         ensures later { is_later result ≡ Bool.true }
         ensures none { kept_of result ≡ [] }

@@ -56,7 +56,7 @@ abbrev pub opens : List (List ℕ) → Bool
 opens [] = false
 opens (word ∷ ws) = is_word (codes "open") word
 
--- what stands behind a line's first `@`, by the place of that, where no quote comes before it
+-- what stands behind a line's first `@`, by the place of that, if no quote comes before it
 abbrev pub named_at : List ℕ → Option ℕ → Option (List ℕ)
 named_at line None = None
 named_at line (Some k) =

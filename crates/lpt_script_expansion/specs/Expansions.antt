@@ -22,7 +22,7 @@ use Rattle.lpt_script_expansion.specs.Origins.{waiting}
 
 -- ---- what a script reads
 
--- what a line asks for, where it asks for anything
+-- what a line asks for, if it asks for anything
 abbrev pub asked_by : Reading → Option Command
 asked_by Skipped = None
 asked_by (Asks c) = Some c
@@ -36,13 +36,13 @@ command_of source line = asked_by (reading_of source line)
 abbrev pub is_command : (source : ℕ) → List ℕ → Bool
 is_command source line = is_some (command_of source line)
 
--- lines, where a script reads each of them as a command
+-- lines, if a script reads each of them as a command
 abbrev pub all_read : (source : ℕ) → List (List ℕ) → Option (List (List ℕ))
 all_read source ls = if list_all (is_command source) ls then Some ls else None
 
 -- ---- a word in place of a number
 
--- the parts of the message that was last opened as this transaction; 1 alone where none was
+-- the parts of the message that was last opened as this transaction; 1 alone if none was
 abbrev pub all_parts : Shown → Direction → Name → List ℕ
 all_parts w d name = range_with_len 1 (max 1 (parts_of w d name))
 
@@ -76,7 +76,7 @@ word_meant w c word =
     else if is_listing c then numbers_of word
     else None
 
--- the same, where there is a command
+-- the same, if there is a command
 abbrev pub meant_by : Shown → Option Command → List ℕ → Option (List ℕ)
 meant_by w None word = None
 meant_by w (Some c) word = word_meant w c word
@@ -85,7 +85,7 @@ meant_by w (Some c) word = word_meant w c word
 abbrev pub lines_numbered : (front : List ℕ) → List ℕ → List (List ℕ)
 lines_numbered front ns = map (λ n. front ++ decimal n) ns
 
--- the same, where there are numbers, and a script reads all of the lines
+-- the same, if there are numbers, and a script reads all of the lines
 abbrev pub numbered_by : (source : ℕ) → (front : List ℕ) → Option (List ℕ) → Option (List (List ℕ))
 numbered_by source front None = None
 numbered_by source front (Some ns) = all_read source (lines_numbered front ns)
@@ -110,18 +110,18 @@ is_opening None = false
 is_opening (Some (command.Event e)) = is_opening_event e
 is_opening (Some _) = false
 
--- a line alone, where it opens a message
+-- a line alone, if it opens a message
 abbrev pub opened_by : (source : ℕ) → List ℕ → Option (List (List ℕ))
 opened_by source line = if is_opening (command_of source line) then Some (line ∷ []) else None
 
 -- ---- a line
 
--- the lines of a line with octets in place of a text in quotes, where it has one, or of one without
+-- the lines of a line with octets in place of a text in quotes, if it has one, or of one without
 abbrev pub line_expanded : Shown → List ℕ → Option (List ℕ) → Option (List (List ℕ))
 line_expanded w line (Some opened) = opened_by w.config.source opened
 line_expanded w line None = lines_counted w (cut_of (words line))
 
--- The lines that a line stands for: none where it stands for itself alone. One that is too long
+-- The lines that a line stands for: none if it stands for itself alone. One that is too long
 -- isn't looked at.
 abbrev pub expansion : Shown → List ℕ → Option (List (List ℕ))
 expansion w line =

@@ -15,15 +15,15 @@ range_by item (Some k) =
 abbrev pub range_of : List ℕ → Option (ℕ × ℕ)
 range_of item = range_by item (position (λ b. b == 45) item)
 
--- Numbers, and those from a first to a last behind them: none where there is no such range, where
--- it ends before it begins, and where they are more than 65,535.
+-- Numbers, and those from a first to a last behind them: none if there is no such range, if
+-- it ends before it begins, and if they are more than 65,535.
 abbrev pub with_range : List ℕ → Option (ℕ × ℕ) → Option (List ℕ)
 with_range ns None = None
 with_range ns (Some r) =
     if nat_lt r.1 r.0 || nat_lt 65535 (length ns + (r.1 + 1 - r.0)) then None
     else Some (ns ++ range_with_len r.0 (r.1 + 1 - r.0))
 
--- numbers, where there are any, and those of these items behind them
+-- numbers, if there are any, and those of these items behind them
 abbrev pub numbers_listed : Option (List ℕ) → List (List ℕ) → Option (List ℕ)
 numbers_listed None items = None
 numbers_listed (Some ns) [] = Some ns

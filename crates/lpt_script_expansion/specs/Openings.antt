@@ -7,7 +7,7 @@ use Rattle.lpt_packet.specs.Names.{Name}
 use Rattle.lpt_part.specs.Splitting.{part_count}
 use Rattle.lpt_world.specs.Worlds.{Shown, history}
 
--- how many parts the last of these openings of the transaction has; where there is none, so many
+-- how many parts the last of these openings of the transaction has; if there is none, so many
 abbrev pub parts_after : (p : ℕ) → Direction → Name → List Opening → (before : ℕ) → ℕ
 parts_after p d name [] before = before
 parts_after p d name (o ∷ os) before =

@@ -37,7 +37,7 @@ way_of origin.Request = Up
 way_of origin.Report = Down
 way_of (origin.Noise d) = d
 
--- whether what was put so, where anything was, goes in this direction
+-- whether what was put so, if anything was, goes in this direction
 abbrev pub goes : Direction → Option Origin → Bool
 goes d o = option_map_or (λ at. same_direction (way_of at) d) o false
 

@@ -7,7 +7,7 @@ ghost use Rattle.lpt_script_expansion.specs.Cuts.{cut_of};
 use lpt_script_words::split_word;
 use std::alloc::{AllocError, Global};
 
-// The words of a line but the last, each with a blank behind it, and the last; none where it has no
+// The words of a line but the last, each with a blank behind it, and the last; none if it has no
 // word.
 pub(crate) fn cut_last(alloc: Global, line: &[u8]) -> Result<Option<(Vec<u8>, &[u8])>, AllocError>
     ensures { IfOk result (λ r. option_map (λ c. (c.0.items, c.1.now)) r

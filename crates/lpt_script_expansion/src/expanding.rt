@@ -39,7 +39,7 @@ pub fn expand(alloc: Global, world: &World, line: &[u8]) -> Result<Option<Vec<Oc
     }
 }
 
-// A line alone, where it opens a message.
+// A line alone, if it opens a message.
 fn opened_by(alloc: Global, source: u16, line: Octets) -> Result<Option<Vec<Octets>>, AllocError>
     ensures { IfOk result (λ r. option_map (λ v. v.items) r ≡ opened_by source line) }
 {
@@ -116,7 +116,7 @@ fn numbered_line(alloc: Global, front: &[u8], number: u64) -> Result<Octets, All
     Ok(Octets::from_vec(line))
 }
 
-// Lines, where a script reads each of them as a command.
+// Lines, if a script reads each of them as a command.
 fn all_read(
     alloc: Global,
     source: u16,

@@ -12,7 +12,7 @@ use lpt_script_words::Command;
 use lpt_world::World;
 use std::alloc::{AllocError, Global};
 
-// The numbers that a word in place of this command's stands for, where it may stand there.
+// The numbers that a word in place of this command's stands for, if it may stand there.
 pub(crate) fn word_meant(
     alloc: Global,
     world: &World,
@@ -44,7 +44,7 @@ fn all_of(alloc: Global, world: &World, command: &Command) -> Result<Option<Vec<
     }
 }
 
-// The numbers of the parts of a message; 1 alone where none was opened.
+// The numbers of the parts of a message; 1 alone if none was opened.
 fn all_parts(
     alloc: Global,
     world: &World,

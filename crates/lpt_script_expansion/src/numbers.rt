@@ -12,7 +12,7 @@ use std::alloc::{AllocError, Global};
 /// The most numbers that a word lists: as many as a message has parts at most.
 const MOST_NUMBERS: u64 = 65_535;
 
-// The numbers that a word lists, in its order and as often as it names them; none where it is no
+// The numbers that a word lists, in its order and as often as it names them; none if it is no
 // list, or has more than 65,535.
 pub(crate) fn read_numbers(alloc: Global, word: &[u8]) -> Result<Option<Vec<u64>>, AllocError>
     ensures { IfOk result (λ r. option_map (λ ns. ns.items) r ≡ numbers_of word.now) }

@@ -10,7 +10,7 @@ use lpt_text::first_place;
 use std::alloc::{AllocError, Global};
 
 // A line with octets in place of the text between its first quote and the one that ends it, or with
-// those that are given behind its first `@`; none where it has neither.
+// those that are given behind its first `@`; none if it has neither.
 pub(crate) fn spelled_out(alloc: Global, line: &[u8]) -> Result<Option<Octets>, AllocError>
     ensures { IfOk result (λ r. r ≡ spelled_out line.now) }
 {
@@ -21,7 +21,7 @@ pub(crate) fn spelled_out(alloc: Global, line: &[u8]) -> Result<Option<Octets>, 
 }
 
 // A line with octets in place of the text between its first quote and the one that ends it; none
-// where it has no such text.
+// if it has no such text.
 fn quoted_line(alloc: Global, line: &[u8]) -> Result<Option<Octets>, AllocError>
     ensures { IfOk result (λ r. r ≡ spelled_at line.now (position (λ b. b == 34) line.now)) }
 {
@@ -36,7 +36,7 @@ fn quoted_line(alloc: Global, line: &[u8]) -> Result<Option<Octets>, AllocError>
     Ok(Some(Octets::from_vec(spelled)))
 }
 
-// A line without its first `@`; none where it has none.
+// A line without its first `@`; none if it has none.
 fn given_line(alloc: Global, line: &[u8]) -> Result<Option<Octets>, AllocError>
     ensures { IfOk result (λ r. r ≡ given_at line.now (position (λ b. b == 64) line.now)) }
 {

@@ -34,7 +34,7 @@ words_misfit (w ∷ ws) = if is_comment w then None else command_misfit w ws (co
 abbrev pub finding_at : List ℕ → Misfit → Finding
 finding_at line m = record { column = column_of m.word line; reason = m.reason }
 
--- why a line is unreadable, where it is
+-- why a line is unreadable, if it is
 unfoldable pub why : List ℕ → Option Finding
 why line =
     if nat_lt longest_line (length line) then Some (record { column = longest_line + 1; reason = LongLine })

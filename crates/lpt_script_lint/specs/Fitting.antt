@@ -26,7 +26,7 @@ at_least least (Some n) = nat_le least n
 abbrev pub fit_number : Number → List ℕ → Bool
 fit_number n word = at_least (range_of n).0 (number_of (range_of n).1 word)
 
--- whether a source, where one is written, and what stands behind it are such numbers
+-- whether a source, if one is written, and what stands behind it are such numbers
 abbrev pub fit_sourced : Number → Option (List ℕ) → List ℕ → Bool
 fit_sourced n None word = fit_number n word
 fit_sourced n (Some source) word = fit_number number.Source source && fit_number n word
@@ -46,7 +46,7 @@ abbrev pub wrong_number : Number → List ℕ → Reason
 wrong_number n word =
     if is_some (number_of greatest_number word) then OutOfRange n else Wrong (kind.Number n)
 
--- why a source, where one is written, or what stands behind it isn't such a number
+-- why a source, if one is written, or what stands behind it isn't such a number
 abbrev pub wrong_sourced : Number → Option (List ℕ) → List ℕ → Reason
 wrong_sourced n None word = wrong_number n word
 wrong_sourced n (Some source) word =
@@ -98,7 +98,7 @@ misfit ks n ws = then_judged behind (pass ks n ws)
 
 -- ---- areas of a load
 
--- an area's address, where so much room and so many areas are left
+-- an area's address, if so much room and so many areas are left
 abbrev pub address_misfit : (n room left : ℕ) → List ℕ → Option Misfit
 address_misfit n room left word =
     if not (fit (kind.Number number.Address) word)
@@ -115,7 +115,7 @@ area_with n room word (Some octets) =
     else if nat_lt room (8 + length octets) then Err (misfit_at n word LongLoad)
     else Ok (8 + length octets)
 
--- the room that an area of a word's octets takes, where so much is left
+-- the room that an area of a word's octets takes, if so much is left
 abbrev pub area_size : (n room : ℕ) → List ℕ → Result ℕ Misfit
 area_size n room word = area_with n room word (octets_of word)
 
@@ -124,7 +124,7 @@ abbrev pub then_more : Result ℕ Misfit → (ℕ → Option Misfit) → Option 
 then_more (Ok size) more = more size
 then_more (Err m) more = Some m
 
--- what is at fault of pairs of words, an area each, where so much room and so many of 255 areas are
+-- what is at fault of pairs of words, an area each, if so much room and so many of 255 areas are
 -- left
 abbrev pub areas_misfit : (n room left : ℕ) → List (List ℕ) → Option Misfit
 areas_misfit n room left [] =

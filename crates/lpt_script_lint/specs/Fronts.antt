@@ -10,7 +10,7 @@ BeginsLine ws =
     × ((source : ℕ) → is_unreadable (words_reading source (ws ++ more)) ≡ false)
 
 -- no readable line goes on like these words up to and with the one of this number, but one does up
--- to it; where there is no such word, it is missing
+-- to it; if there is no such word, it is missing
 pub record StopsAt (n : ℕ) (ws : List (List ℕ)) : Type 0 where
   pub within : n ≤ length ws
   pub front : BeginsLine (take n ws)

@@ -47,7 +47,7 @@ shape_in (row ∷ rows) word = if is_word row.0 word then Some row.1 else shape_
 abbrev pub command_shape : List ℕ → Option CommandShape
 command_shape word = shape_in commands word
 
--- how often a node ticks, where that is said
+-- how often a node ticks, if that is said
 abbrev pub count_misfit : ℕ → List (List ℕ) → Option Misfit
 count_misfit n [] = None
 count_misfit n (w ∷ ws) = misfit (kind.Number number.Count ∷ []) n (w ∷ ws)

@@ -42,7 +42,7 @@ pub(crate) fn areas_misfit(first: usize, line: &[u8]) -> Option<Misfit>
     (left == AREA_LIMIT).then_some(missing_at(place, ADDRESS))
 }
 
-// An area's address at fault, where so much room and so many areas are left.
+// An area's address at fault, if so much room and so many areas are left.
 fn address_misfit(place: usize, room: usize, left: usize, word: &[u8]) -> Option<Misfit>
     ensures misfit { result ≡ address_misfit place room left word.now }
     ensures left { result ≡ None → 0 < left }
@@ -58,7 +58,7 @@ fn address_misfit(place: usize, room: usize, left: usize, word: &[u8]) -> Option
     }
 }
 
-// The room that an area of a word's octets takes, where so much is left.
+// The room that an area of a word's octets takes, if so much is left.
 fn area_size(place: usize, room: usize, word: &[u8]) -> Result<usize, Misfit>
     ensures size { result ≡ area_size place room word.now }
     ensures within { IfOk result (λ n. n ≤ room) }

@@ -12,15 +12,15 @@ use crate::reasons::Reason;
 use lpt_script_words::split_word;
 use lpt_text::LONGEST_LINE;
 
-/// If and why a line is unreadable, given without its line feed and the carriage return dropped
-/// with that; nothing of one that can be read.
+/// Where and why a line is unreadable, given without its line feed and the carriage return dropped
+/// with that; `None` for one that can be read.
 ///
 /// A line of more than 140,000 octets is unreadable whatever it holds. In any other it is the first
 /// word that doesn't fit those before it, or the word that is missing behind the last.
 pub fn explain(line: &[u8]) -> Option<Finding>
     ensures value { result ≡ why line.now }
 
-    // A line is unreadable here where it would end a run, whatever source is configured.
+    // A line is unreadable here exactly if it would end a run, whatever source is configured.
     ensures exact { (source : ℕ) → is_some result ≡ is_unreadable (reading_of source line.now) }
 {
     find_fault(line)

@@ -2,11 +2,11 @@
 
 use crate::reasons::Reason;
 
-/// If a line stops being readable, and why.
+/// Where a line stops being readable, and why.
 #[derive(Clone, Copy, PartialEq, Eq)]
 pub struct Finding {
     /// The place in the line, from 1: of the first octet of the word at fault; behind the last
-    /// octet where a word is missing; and of the first octet over what a line may have.
+    /// octet if a word is missing; and of the first octet over what a line may have.
     pub column: usize,
     /// Why.
     pub reason: Reason,

@@ -30,7 +30,7 @@ abbrev pub finding_line : Finding → List ℕ
 finding_line f =
     codes "unreadable at " ++ (decimal f.column ++ (codes ": " ++ (why_words f.reason ++ 10 ∷ [])))
 
--- the same, where something is found
+-- the same, if something is found
 abbrev pub finding_text : Option Finding → List ℕ
 finding_text None = []
 finding_text (Some f) = finding_line f
@@ -50,18 +50,18 @@ text_served w text failed = record { world = w; text = text; failed = failed }
 abbrev pub own_line : Shown → List ℕ → Option (List ℕ)
 own_line w line = if nat_lt longest_line (length line) then None else own_text w (words line)
 
--- a line that a script doesn't read, by what it prints where a shell does
+-- a line that a script doesn't read, by what it prints if a shell does
 abbrev pub own_served : Shown → List ℕ → Option (List ℕ) → Served
 own_served w line None = text_served w (finding_text (why line)) true
 own_served w line (Some text) = text_served w text false
 
--- a command that was done, with why an event was refused, where one was, and where the message that it
--- names has so many parts
+-- a command that was done, with why an event was refused, if one was; the message that it names
+-- has so many parts
 abbrev pub command_noted : (parts : ℕ) → Ran → Served
 command_noted parts ran =
     text_served ran.world (ran.text ++ note_text parts ran.refused) (is_some ran.refused)
 
--- what is done that a script reads, with why it was refused; nothing, where nothing is
+-- what is done that a script reads, with why it was refused; nothing, if nothing is
 abbrev pub reading_run : Shown → Reading → Served
 reading_run w Skipped = text_served w [] false
 reading_run w (Asks c) = command_noted (parts_named w c) (command_ran c w)
@@ -94,7 +94,7 @@ abbrev pub unread_served : Shown → List ℕ → Option (List (List ℕ)) → S
 unread_served w line None = own_served w line (own_line w line)
 unread_served w line (Some ls) = expanded_served w ls
 
--- what a line does: what it does in a script, where one reads it
+-- what a line does: what it does in a script, if one reads it
 abbrev pub line_answered : Shown → List ℕ → Reading → Served
 line_answered w line Skipped = reading_run w Skipped
 line_answered w line (Asks c) = reading_run w (Asks c)
@@ -147,7 +147,7 @@ lines_served prompt (line ∷ more) w failed =
 abbrev pub session : (prompt : List ℕ) → Shown → List ℕ → Session
 session prompt w text = behind prompt (lines_served prompt (lines text) w 0)
 
--- what is behind the last prompt: a line end, where there are prompts, and no line ended the session
+-- what is behind the last prompt: a line end, if there are prompts, and no line ended the session
 abbrev pub closing : (prompt : List ℕ) → (over : Bool) → List ℕ
 closing prompt true = []
 closing prompt false = if length prompt == 0 then [] else 10 ∷ []

@@ -10,7 +10,7 @@ use Rattle.lpt_events.specs.FaultNames.{code_of, name_of, text_of}
 use Rattle.lpt_world.specs.Worlds.{Shown}
 use Rattle.lpt_script_expansion.specs.Openings.{parts_of}
 
--- what else helps of an event that was refused, where the message that it names has so many parts
+-- what else helps of an event that was refused, if the message that it names has so many parts
 abbrev pub hint : (parts : ℕ) → StepFault → List ℕ
 hint parts fault.NoSuchPart = codes "; it has parts 1 to " ++ decimal parts
 hint parts fault.NotOpen = codes "; show senders tells which are"
@@ -25,7 +25,7 @@ abbrev pub fault_line : (parts : ℕ) → StepFault → List ℕ
 fault_line parts f =
     decimal (code_of f) ++ (32 ∷ (name_of f ++ (codes ": " ++ (text_of f ++ (hint parts f ++ 10 ∷ [])))))
 
--- the line that tells why, where something was refused
+-- the line that tells why, if something was refused
 abbrev pub note_text : (parts : ℕ) → Option StepFault → List ℕ
 note_text parts None = []
 note_text parts (Some f) = fault_line parts f

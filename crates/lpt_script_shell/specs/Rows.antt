@@ -22,7 +22,7 @@ use Rattle.lpt_events.specs.Openings.{is_opened}
 
 -- ---- packets
 
--- what a packet was put as: a part of a message, by its direction, the name, where this source is
+-- what a packet was put as: a part of a message, by its direction, the name, if this source is
 -- configured, and the part's number; or something else, by its direction
 abbrev pub origin_text : (source : ℕ) → Option Origin → List ℕ
 origin_text source None = []
@@ -42,7 +42,7 @@ abbrev pub held_octets : Shown → ℕ → Option (List ℕ) → List ℕ
 held_octets w n None = []
 held_octets w n (Some m) = held_line w.config.source (origin_in w.journal n) n (length m)
 
--- the packet of this number, where the link holds it
+-- the packet of this number, if the link holds it
 abbrev pub held_row : Shown → ℕ → List ℕ
 held_row w n = if is_held (history w) n then held_octets w n (octets_of w n) else []
 
@@ -60,20 +60,21 @@ rows_text row from count = flat_map row (range_with_len from count)
 abbrev pub parts : Shown → Opening → ℕ
 parts w o = part_count (length o.message) w.config.part_size
 
--- a message of so many parts, where it is open at the node that sends it
+-- a message of so many parts, if it is open at the node that sends it
 abbrev pub sender_row : Shown → Direction → Name → (parts : ℕ) → List ℕ
 sender_row w d name parts =
     if is_open (sender (history w) d name)
     then line_of (codes "open" ∷ direction_word d ∷ name_text w.config.source name ∷ codes "parts" ∷ decimal parts ∷ [])
     else []
 
--- a message of so many parts, and which of them its receiver doesn't keep, where this source is configured
+-- a message of so many parts, and which of them its receiver doesn't keep, if this source is
+-- configured
 abbrev pub missing_line : (source : ℕ) → Direction → Name → (kept : List ℕ) → (parts : ℕ) → List ℕ
 missing_line source d name kept parts =
     codes "reception " ++ (direction_word d ++ (codes " " ++ (name_text source name ++ (codes " parts "
     ++ (decimal parts ++ (codes " missing" ++ (gaps_text kept parts ++ 10 ∷ [])))))))
 
--- the same where the receiver keeps parts of it
+-- the same if the receiver keeps parts of it
 abbrev pub missing_row : (source : ℕ) → Direction → Name → (kept : List ℕ) → (parts : ℕ) → List ℕ
 missing_row source d name kept parts = if length kept == 0 then [] else missing_line source d name kept parts
 

@@ -52,7 +52,7 @@ jobs_text w =
     ++ (ticket_text (codes "w1") (option_map (λ t. (t.boot, t.job)) (ticket w.config (history w) W1))
     ++ ticket_text (codes "w2") (option_map (λ t. (t.boot, t.job)) (ticket w.config (history w) W2)))
 
--- the number up to which packets are told that are asked for up to this one, where so many were put
+-- the number up to which packets are told that are asked for up to this one, if so many were put
 abbrev pub up_to : (last put : ℕ) → ℕ
 up_to last put = if nat_lt last put then last + 1 else put
 

@@ -33,7 +33,7 @@ pub(crate) fn add_held(text: &mut String, world: &World) -> Result<(), AllocErro
     Ok(())
 }
 
-// Adds the packet of this number, where the link holds it.
+// Adds the packet of this number, if the link holds it.
 fn add_held_row(text: &mut String, world: &World, number: u64) -> Result<(), AllocError>
     ensures { OnOk result (string_bytes text.new ≡ string_bytes text.old ++ held_row world.now number) }
 {
@@ -49,7 +49,7 @@ fn add_held_row(text: &mut String, world: &World, number: u64) -> Result<(), All
     }
 }
 
-// Adds a packet of so many octets, and what it was put as, where this source is configured.
+// Adds a packet of so many octets, and what it was put as, if this source is configured.
 fn add_held_line(
     text: &mut String,
     source: u16,
@@ -65,7 +65,7 @@ fn add_held_line(
     text.push_str("\n")
 }
 
-// Adds what a packet was put as, where this source is configured.
+// Adds what a packet was put as, if this source is configured.
 fn add_origin(text: &mut String, source: u16, origin: Option<Origin>) -> Result<(), AllocError>
     ensures { OnOk result (string_bytes text.new
         ≡ string_bytes text.old ++ origin_text source origin) }
@@ -166,7 +166,7 @@ fn add_message(
     }
 }
 
-// Adds a message of so many parts, where it is open at the node that sends it.
+// Adds a message of so many parts, if it is open at the node that sends it.
 fn add_sender(
     text: &mut String,
     world: &World,

@@ -156,7 +156,7 @@ fn add_view(alloc: Global, text: &mut String, world: &World, view: View) -> Resu
     }
 }
 
-// Up to which number packets are listed, where they are asked for up to this one and so many were
+// Up to which number packets are listed, if they are asked for up to this one and so many were
 // put.
 fn up_to(last: u64, put: u64) -> u64
     ensures { result ≡ up_to last put }

@@ -65,7 +65,7 @@ abort_text a =
     line_of (codes "abort" ∷ codes "id" ∷ decimal a.0
     ∷ codes "reason" ∷ decimal (reason_code a.1) ∷ [])
 
--- a failure code, where there is one
+-- a failure code, if there is one
 abbrev pub code_words : Option ℕ → List (List ℕ)
 code_words None = []
 code_words (Some code) = codes "code" ∷ decimal code ∷ []
@@ -78,30 +78,30 @@ report_text r =
 
 -- ---- the third line
 
--- a body that should be a part of this kind; nothing where it isn't read
+-- a body that should be a part of this kind; nothing if it isn't read
 abbrev pub part_line : ℕ → List ℕ → Kind → List ℕ
 part_line p body kind = option_map_or part_text (part_in p kind body) []
 
--- a body that should be an abortion report's; nothing where it isn't read
+-- a body that should be an abortion report's; nothing if it isn't read
 abbrev pub abort_line : List ℕ → List ℕ
 abort_line body = option_map_or abort_text (abort_in body) []
 
--- a body that should be a verification report's; nothing where it isn't read
+-- a body that should be a verification report's; nothing if it isn't read
 abbrev pub report_line : ℕ → List ℕ → List ℕ
 report_line subtype body = option_map_or report_text (report_in subtype body) []
 
--- what a telecommand carries, where that is a part
+-- what a telecommand carries, if that is a part
 abbrev pub tc_carried : ℕ → Command → List ℕ
 tc_carried p c = option_map_or (part_line p c.body) (carried_kind Up c.service c.subtype) []
 
--- what telemetry carries that is no part, where that is a verification report or an abortion report
+-- what telemetry carries that is no part, if that is a verification report or an abortion report
 abbrev pub tm_reported : Telemetry → List ℕ
 tm_reported t =
     if t.service == 1 then report_line t.subtype t.body
     else if (t.service == 13) && (t.subtype == 16) then abort_line t.body
     else []
 
--- what telemetry carries, where that is a part or a report
+-- what telemetry carries, if that is a part or a report
 abbrev pub tm_carried : ℕ → Telemetry → List ℕ
 tm_carried p t =
     option_map_or (part_line p t.body) (carried_kind Down t.service t.subtype) (tm_reported t)

@@ -20,7 +20,7 @@ areas_text a =
     line_of (codes "memory" ∷ decimal a.memory ∷ codes "areas" ∷ decimal a.count
     ∷ codes "address" ∷ decimal a.address ∷ codes "length" ∷ decimal a.len ∷ [])
 
--- areas, where there are any
+-- areas, if there are any
 abbrev pub areas_line : Option Areas → List ℕ
 areas_line a = option_map_or areas_text a []
 

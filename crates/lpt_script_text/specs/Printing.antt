@@ -34,7 +34,7 @@ line_of [] = 10 ∷ []
 line_of (w ∷ []) = w ++ 10 ∷ []
 line_of (w ∷ v ∷ ws) = w ++ 32 ∷ line_of (v ∷ ws)
 
--- octets in hexadecimal digits, lower case; `-` where there are none
+-- octets in hexadecimal digits, lower case; `-` if there are none
 abbrev pub octets_text : List ℕ → List ℕ
 octets_text m = if length m == 0 then codes "-" else encode_lower m
 
@@ -188,7 +188,7 @@ plain_count_text n = line_of (codes "plain" ∷ decimal n ∷ [])
 abbrev pub applied_count_text : ℕ → List ℕ
 applied_count_text n = line_of (codes "applied" ∷ decimal n ∷ [])
 
--- the octets of the packet of this number, where there is one
+-- the octets of the packet of this number, if there is one
 abbrev pub packet_text : ℕ → Option (List ℕ) → List ℕ
 packet_text n (Some m) = line_of (codes "packet" ∷ decimal n ∷ octets_text m ∷ [])
 packet_text n None = line_of (codes "packet" ∷ decimal n ∷ codes "none" ∷ [])
@@ -197,7 +197,7 @@ packet_text n None = line_of (codes "packet" ∷ decimal n ∷ codes "none" ∷ 
 abbrev pub clear_text : Bool → List ℕ
 clear_text clear = line_of (codes "clear" ∷ (if clear then codes "yes" else codes "no") ∷ [])
 
--- octets of a memory from an address on, where it has so many
+-- octets of a memory from an address on, if it has so many
 abbrev pub memory_text : (id address : ℕ) → Option (List ℕ) → List ℕ
 memory_text id address (Some m) =
     line_of (codes "memory" ∷ decimal id ∷ decimal address ∷ octets_text m ∷ [])
@@ -218,7 +218,7 @@ message_text source None m = line_of (codes "plain" ∷ octets_text m ∷ [])
 abbrev pub release_text : ℕ → Release → List ℕ
 release_text source r = message_text source r.of r.message
 
--- all releases, each in order; `none` where there is none
+-- all releases, each in order; `none` if there is none
 abbrev pub releases_text : ℕ → List Release → List ℕ
 releases_text source [] = none_text
 releases_text source (r ∷ rs) = flat_map (release_text source) (r ∷ rs)

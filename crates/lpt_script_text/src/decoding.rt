@@ -157,7 +157,7 @@ fn print_body(alloc: Global, body: &[u8]) -> Result<String, AllocError>
     format!(in alloc; "body {octets}\n")
 }
 
-// The part that a telecommand carries, where it carries one.
+// The part that a telecommand carries, if it carries one.
 fn print_tc_carried(alloc: Global, head: &TcHead, body: &[u8], p: u32) -> Result<String, AllocError>
     requires { IsPartSize p }
     ensures { IfOk result (λ t. string_bytes t ≡ tc_carried p (command head.now body.now)) }
@@ -168,7 +168,7 @@ fn print_tc_carried(alloc: Global, head: &TcHead, body: &[u8], p: u32) -> Result
     }
 }
 
-// The part or the report that telemetry carries, where it carries one.
+// The part or the report that telemetry carries, if it carries one.
 fn print_tm_carried(alloc: Global, head: &TmHead, body: &[u8], p: u32) -> Result<String, AllocError>
     requires { IsPartSize p }
     ensures { IfOk result (λ t. string_bytes t ≡ tm_carried p (telemetry head.now body.now)) }
@@ -184,7 +184,7 @@ fn print_tm_carried(alloc: Global, head: &TmHead, body: &[u8], p: u32) -> Result
     }
 }
 
-// The part of this kind that a body is; nothing where it isn't read as one.
+// The part of this kind that a body is; nothing if it isn't read as one.
 fn print_part(alloc: Global, kind: Kind, body: &[u8], p: u32) -> Result<String, AllocError>
     requires { IsPartSize p }
     ensures { IfOk result (λ t. string_bytes t ≡ part_line p body.now kind) }
@@ -199,7 +199,7 @@ fn print_part(alloc: Global, kind: Kind, body: &[u8], p: u32) -> Result<String, 
     format!(in alloc; "part {kind} id {id} number {number} octets {octets}\n")
 }
 
-// The abortion report that a body is; nothing where it isn't read as one.
+// The abortion report that a body is; nothing if it isn't read as one.
 fn print_abort(alloc: Global, body: &[u8]) -> Result<String, AllocError>
     ensures { IfOk result (λ t. string_bytes t ≡ abort_line body.now) }
 {
@@ -210,7 +210,7 @@ fn print_abort(alloc: Global, body: &[u8]) -> Result<String, AllocError>
     format!(in alloc; "abort id {id} reason {reason}\n")
 }
 
-// The verification report that a body is; nothing where it isn't read as one.
+// The verification report that a body is; nothing if it isn't read as one.
 fn print_report(alloc: Global, subtype: u8, body: &[u8]) -> Result<String, AllocError>
     ensures { IfOk result (λ t. string_bytes t ≡ report_line subtype body.now) }
 {

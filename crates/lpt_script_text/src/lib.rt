@@ -3,8 +3,8 @@
 //! Numbers are decimal; octets are hexadecimal digits in lower case, or `-` if there are none.
 //!
 //! Texts are made here and written nowhere; the only error is out of memory. A text is a `String`:
-//! a new one, or if `write` stands in the name the caller's, which is made anew and can serve
-//! for all lines. The first calls are `write_accepted` with an event and its reply, and
+//! a new one, or, in a call whose name has `write` in it, the caller's, which is made anew and can
+//! serve for all lines. The first calls are `write_accepted` with an event and its reply, and
 //! `print_decoded` with octets; `print_areas` says more of them.
 #![tactic(auto)]
 

@@ -21,7 +21,7 @@ pub fn print_areas(alloc: Global, octets: &[u8]) -> Result<String, AllocError>
     }
 }
 
-// The areas that they name, where they name any.
+// The areas that they name, if they name any.
 fn named_areas(octets: &[u8]) -> Option<Areas>
     ensures { result ≡ areas_named octets.now }
 {

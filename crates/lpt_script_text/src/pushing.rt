@@ -58,7 +58,7 @@ pub(crate) fn two_numbers(text: &mut String, front: &str, a: u64, b: u64) -> Res
     end(text, b)
 }
 
-// Pushes a name: its identifier alone where it is of the configured source.
+// Pushes a name: its identifier alone if it is of the configured source.
 #[inline(always)]
 pub(crate) fn push_name(text: &mut String, source: u16, name: Name) -> Result<(), AllocError>
     ensures { OnOk result (string_bytes text.new ≡ string_bytes text.old ++ name_text source name) }

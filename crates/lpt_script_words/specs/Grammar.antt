@@ -255,7 +255,8 @@ words_reading source (w ∷ ws) =
     if is_comment w then Skipped
     else command_asked (option_and_then (λ k. arguments_of source k ws) (keyword_of w))
 
--- what a line says where this source is configured; one of more than 140,000 octets is unreadable, whatever it holds
+-- what a line says if this source is configured; one of more than 140,000 octets is unreadable,
+-- whatever it holds
 unfoldable pub reading_of : (source : ℕ) → List ℕ → Reading
 reading_of source line =
     if nat_lt longest_line (length line) then Unreadable else words_reading source (words line)

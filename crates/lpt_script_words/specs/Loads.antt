@@ -17,7 +17,7 @@ pub record LoadView : Type 0 where
   pub memory : ℕ
   pub areas : List Area
 
--- a load, where it can be written: its sequence count has 14 bits, and its areas have no fault
+-- a load, if it can be written: its sequence count has 14 bits, and its areas have no fault
 abbrev pub if_written : LoadView → Option LoadView
 if_written l = if nat_lt 16383 l.count || is_some (write_fault l.areas) then None else Some l
 

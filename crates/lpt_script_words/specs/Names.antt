@@ -72,7 +72,7 @@ abbrev pub cut_at : List ℕ → Option ℕ → Option (List ℕ) × List ℕ
 cut_at word None = (None, word)
 cut_at word (Some n) = (Some (take n word), drop (n + 1) word)
 
--- a word cut at its first slash, where it has one: the word of a source, and what is of that source
+-- a word cut at its first slash, if it has one: the word of a source, and what is of that source
 abbrev pub cut_source : List ℕ → Option (List ℕ) × List ℕ
 cut_source word = cut_at word (position (λ b. b == 47) word)
 
@@ -81,7 +81,7 @@ abbrev pub source_of : (source : ℕ) → Option (List ℕ) → Option ℕ
 source_of source None = Some source
 source_of source (Some word) = u16_of word
 
--- the name of a transaction: `ID`, where this source is configured, or `SOURCE/ID`
+-- the name of a transaction: `ID`, if this source is configured, or `SOURCE/ID`
 abbrev pub name_of : (source : ℕ) → List ℕ → Option Name
 name_of source word =
     option_map (λ n. named_by n.0 n.1)
@@ -95,7 +95,7 @@ transaction_of source direction name = option_zip (direction_of direction) (name
 abbrev pub flags_of : List ℕ → Option ℕ
 flags_of word = number_of 15 word
 
--- the source of a request and its acknowledgement flags: `FLAGS`, where this source is configured,
+-- the source of a request and its acknowledgement flags: `FLAGS`, if this source is configured,
 -- or `SOURCE/FLAGS`
 abbrev pub sent_flags_of : (source : ℕ) → List ℕ → Option (ℕ × ℕ)
 sent_flags_of source word =

@@ -20,7 +20,7 @@ abbrev pub number_spelled : List ℕ → ℕ
 number_spelled [] = 0
 number_spelled (digit ∷ more) = (digit - 48) * 10 ^ length more + number_spelled more
 
--- the number of a word of 1 to 10 digits, where it is at most the greatest
+-- the number of a word of 1 to 10 digits, if it is at most the greatest
 unfoldable pub number_of : ℕ → List ℕ → Option ℕ
 number_of greatest word =
     if is_numeral word

@@ -131,7 +131,7 @@ impl Eq for Load {
     ghost laws = { same_load_equiv };
 }
 
-// The words after `load`. The only error is out of memory, where they are a load.
+// The words after `load`. The only error is out of memory, if they are a load.
 #[tactic(auto, using(crate::proofs::Hexes::none_of))]
 pub(crate) fn read_load(alloc: Global, source: u16, rest: &[u8]) -> Result<Option<Load>, AllocError>
     ensures says { IfOk result (λ r. r ≡ load_of source (words rest.now)) }
@@ -222,7 +222,7 @@ fn area_len(address: &[u8], octets: &[u8]) -> Option<usize>
     octets_spelled(octets)
 }
 
-// The load of these words and areas, where it can be written.
+// The load of these words and areas, if it can be written.
 fn load_with(
     source: u16,
     name: &[u8],

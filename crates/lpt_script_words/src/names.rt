@@ -134,7 +134,7 @@ pub fn cut_source(word: &[u8]) -> (Option<&[u8]>, &[u8])
     }
 }
 
-// The source that a word names; where there is none, it is the configured one.
+// The source that a word names; if there is none, it is the configured one.
 fn read_source(source: u16, word: Option<&[u8]>) -> Option<u16>
     ensures { result ≡ source_of source (option_map (λ w. w.now) word.entry) }
 {
@@ -144,7 +144,7 @@ fn read_source(source: u16, word: Option<&[u8]>) -> Option<u16>
     }
 }
 
-// The name of a transaction: `ID`, where this source is configured, or `SOURCE/ID`.
+// The name of a transaction: `ID`, if this source is configured, or `SOURCE/ID`.
 pub(crate) fn read_name(source: u16, word: &[u8]) -> Option<Name>
     ensures { result ≡ name_of source word.now }
 {
@@ -173,7 +173,7 @@ pub(crate) fn read_flags(word: &[u8]) -> Option<AckFlags>
     AckFlags::new(number as u8)
 }
 
-// The source of a request and its acknowledgement flags: `FLAGS`, where this source is configured,
+// The source of a request and its acknowledgement flags: `FLAGS`, if this source is configured,
 // or `SOURCE/FLAGS`.
 pub(crate) fn read_sent_flags(source: u16, word: &[u8]) -> Option<(u16, AckFlags)>
     ensures { result ≡ sent_flags_of source word.now }

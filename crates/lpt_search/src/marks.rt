@@ -25,7 +25,7 @@ impl Marks {
     ghost use Rattle.lpt_packet.specs.Sizes.{longest_packet};
     ghost use Rattle.lpt_search.specs.Marked.{Marked};
 
-    /// Nothing is kept yet, and the place is the front.
+    /// Marks of which none is kept yet; the place is the front.
     pub fn new() -> Self
         ensures { (room octets : List ℕ) → Marked 0 result room octets }
     {
@@ -83,7 +83,7 @@ fn extend_marks(room: &mut [u16], marked: usize, octets: &[u8], last: usize) -> 
     count
 }
 
-// Begins with the first, where there is none.
+// Begins with the first, if there is none.
 fn begin_marks(room: &mut [u16], marked: usize) -> usize
     requires room { 0 < length room.old }
     ensures are { (octets : List ℕ) → AreMarks marked room.old octets

@@ -44,7 +44,7 @@ fn of_octet(octet: u8) -> u16
     (taken << 12) ^ (taken << 5) ^ taken
 }
 
-// What zeros make of a register, where they make this of the register 1: the sum of what they make
+// What zeros make of a register, if they make this of the register 1: the sum of what they make
 // of each of its bits.
 pub(crate) fn behind_zeros(register: u16, of_one: u16) -> u16
     ensures { (n : ℕ) → of_one ≡ zeros_in 1 n → result ≡ zeros_in register n }
@@ -58,7 +58,7 @@ pub(crate) fn behind_zeros(register: u16, of_one: u16) -> u16
     sum
 }
 
-// The same for a register of one bit more, its lowest, where they make this sum of it without that.
+// The same for a register of one bit more, its lowest, if they make this sum of it without that.
 fn with_bit(sum: u16, of_one: u16, register: u16) -> u16
     ensures { (n : ℕ) → of_one ≡ zeros_in 1 n → sum ≡ zeros_in (register / 2) n
         → result ≡ zeros_in register n }
@@ -85,7 +85,7 @@ pub(crate) fn power(count: usize) -> u16
     power
 }
 
-// The same of this number, where this is that of its half.
+// The same of this number, if this is that of its half.
 fn power_with_bit(half: u16, count: usize) -> u16
     ensures { half ≡ zeros_in 1 (count / 2) → result ≡ zeros_in 1 count }
 {

@@ -33,7 +33,7 @@ impl Search {
     ghost use Rattle.lpt_search.specs.Registers.{AreRegisters, most_registers};
     ghost use Rattle.lpt_search.specs.Searches.{Knows};
 
-    /// Nothing is kept yet, of whatever octets.
+    /// A search that keeps nothing yet, of whatever octets.
     pub fn new(alloc: Global) -> Self
         ensures { (octets : List ℕ) → Knows result octets }
     {
@@ -86,7 +86,7 @@ impl Search {
         may_be_zero(first, self.powers[len], self.registers[far])
     }
 
-    // Forgets what is kept of the stretch, where there is no room for so many octets more.
+    // Forgets what is kept of the stretch, if there is no room for so many octets more.
     fn make_way(&mut self, len: usize)
         requires { len ≤ longest_packet }
         ensures knows { (octets : List ℕ) → Knows self.old octets → Knows self.new octets }
@@ -134,7 +134,7 @@ fn extend_registers(
     Ok(())
 }
 
-// Begins with any register, where there is none.
+// Begins with any register, if there is none.
 fn begin_registers(registers: &mut Vec<u16>, passed: usize, octets: &[u8]) -> Result<(), AllocError>
     requires are { AreRegisters passed registers.old.items octets.now }
     requires begun { passed ≤ length registers.old.items }
@@ -169,7 +169,7 @@ fn extend_powers(powers: &mut Vec<u16>, len: usize) -> Result<(), AllocError>
     Ok(())
 }
 
-// Begins with the first power, where there is none.
+// Begins with the first power, if there is none.
 fn begin_powers(powers: &mut Vec<u16>) -> Result<(), AllocError>
     requires are { ArePowers powers.old.items }
     requires few { length powers.old.items ≤ most_powers }

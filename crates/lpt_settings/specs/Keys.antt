@@ -13,7 +13,7 @@ abbrev pub has_only : List (List ℕ) → Members → Bool
 has_only words no_members = true
 has_only words (member key d more) = is_one_of words key && has_only words more
 
--- the first key of a table that is none of the words; the empty text where each is one
+-- the first key of a table that is none of the words; the empty text if each is one
 abbrev pub unknown_key : List (List ℕ) → Members → List ℕ
 unknown_key words no_members = []
 unknown_key words (member key d more) = if is_one_of words key then unknown_key words more else key

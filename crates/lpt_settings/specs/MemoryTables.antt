@@ -36,7 +36,7 @@ each_memory (item d more) = do
   others ← each_memory more
   Some (first ∷ others)
 
--- these, where they can be memories
+-- these, if they can be memories
 abbrev pub if_memories : Contents → Option Contents
 if_memories ms = if are_memories ms then Some ms else None
 
@@ -53,15 +53,15 @@ has_id id values = list_any (λ v. is_id id (memory_of (view v))) values
 abbrev pub memories_listed : Data → Option Contents
 memories_listed d = as_array d >>= each_memory >>= if_memories
 
--- the memories where none are described: one memory 1 of 256 octets of 0
+-- the memories if none are described: one memory 1 of 256 octets of 0
 unfoldable pub default_memories : Contents
 default_memories = (1, replicate 256 0) ∷ []
 
--- the memories of a value, or the default where there is none
+-- the memories of a value, or the default if there is none
 abbrev pub memories_or : Option Data → Option Contents
 memories_or None = Some default_memories
 memories_or (Some d) = memories_listed d
 
--- the memories at the key `memory`, or the default where the key is absent
+-- the memories at the key `memory`, or the default if the key is absent
 abbrev pub memories_of : Members → Option Contents
 memories_of members = memories_or (get_member (codes "memory") members)

@@ -17,7 +17,7 @@ abbrev pub mode_in : Data → Option Mode
 mode_in (string text) = mode_of text
 mode_in _ = None
 
--- the mode that a value names, or where there is none that of any order
+-- the mode that a value names, or if there is none that of any order
 abbrev pub mode_or : Option Data → Option Mode
 mode_or None = Some Any
 mode_or (Some d) = mode_in d

@@ -12,12 +12,12 @@ abbrev pub number_in : ℕ → ℕ → Data → Option ℕ
 number_in least greatest (integer z) = natural_in least greatest z
 number_in least greatest _ = None
 
--- a number, or where there is none its default, if it has one
+-- a number, or if there is none its default, if it has one
 abbrev pub number_or : ℕ → ℕ → Option ℕ → Option Data → Option ℕ
 number_or least greatest default None = default
 number_or least greatest default (Some d) = number_in least greatest d
 
--- the number at a key, or where the key is absent its default, if it has one
+-- the number at a key, or if the key is absent its default, if it has one
 abbrev pub number_at : List ℕ → ℕ → ℕ → Option ℕ → Members → Option ℕ
 number_at key least greatest default members =
     number_or least greatest default (get_member key members)

@@ -63,7 +63,7 @@ settings_of members =
       Some (numbers, memories))
     else None
 
--- the configuration where no key is set
+-- the configuration if no key is set
 abbrev pub default_config : Config
 default_config = record {
   apid = 100;
@@ -76,10 +76,10 @@ default_config = record {
   mode = Any;
 }
 
--- how much each seat does where no key is set
+-- how much each seat does if no key is set
 abbrev pub default_turns : Turns
 default_turns = record { per_seat = 100000; ticks = 0 }
 
--- the settings where no key is set
+-- the settings if no key is set
 abbrev pub default_settings : (Config × Turns) × Contents
 default_settings = ((default_config, default_turns), default_memories)

@@ -55,11 +55,11 @@ impl fmt::Display for Complaint {
 ///
 /// The only error is out of memory.
 pub fn why_refused(alloc: Global, text: &str) -> Result<Option<Complaint>, AllocError>
-    // There is one exactly where the text isn't a TOML document, or its table means no settings.
+    // There is one exactly if the text isn't a TOML document, or its table means no settings.
     ensures found { IfOk result (λ c. not (is_some c)
         ≡ is_some (option_and_then settings_of (parse_document text.now))) }
 
-    // That the text is no TOML document is reported where it is none.
+    // That the text is no TOML document is reported if it is none.
     ensures reason { parse_document text.now ≡ None
         → IfOk result (λ c. IfSome c (λ it. it.reason ≡ Reason.NotToml)) }
 {
@@ -113,7 +113,7 @@ pub fn complain(alloc: Global, text: &str, wrong: Wrong<'_>) -> Result<Complaint
     })
 }
 
-// The table and the key, where there are any.
+// The table and the key, if there are any.
 fn print_place(alloc: Global, place: WrongPlace, key: &str) -> Result<String, AllocError> {
     let front = print_table(alloc, place)?;
     if key.is_empty() {
@@ -123,7 +123,7 @@ fn print_place(alloc: Global, place: WrongPlace, key: &str) -> Result<String, Al
     format!(in alloc; "{table}{key}: ")
 }
 
-// The table, where it isn't that of the whole file.
+// The table, if it isn't that of the whole file.
 fn print_table(alloc: Global, place: WrongPlace) -> Result<String, AllocError> {
     match place {
         WrongPlace::Top => Ok(String::new(alloc)),

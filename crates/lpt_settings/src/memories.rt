@@ -128,7 +128,7 @@ fn memories_listed(alloc: Global, value: &Value) -> Result<Option<Memories>, All
     Ok(if_memories(memories))
 }
 
-// These, where they can be memories.
+// These, if they can be memories.
 fn if_memories(memories: Vec<(u8, Octets)>) -> Option<Memories>
     ensures { result ≡ if_memories memories.items }
 {

@@ -1,4 +1,4 @@
-//! If something stands in the text of a file of tables, as its lines begin.
+//! Where something stands in the text of a file of tables, as its lines begin.
 
 ghost use Rattle.std.specs.Prelude.{◌≡◌, ◌≤◌, length};
 ghost use Rattle.lpt_settings.specs.Places.{line_at, line_ends};

@@ -53,8 +53,8 @@ pub fn read_config(alloc: Global, text: &str) -> Result<(Config, Memories, Turns
     }
 }
 
-// The settings that a table means; `None` where it is refused. The only error is out of memory,
-// where it isn't.
+// The settings that a table means; `None` if it is refused. The only error is out of memory,
+// if it isn't.
 fn read_table(
     alloc: Global,
     table: &Table,

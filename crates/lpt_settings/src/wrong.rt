@@ -88,7 +88,7 @@ pub struct Wrong<'t> {
 }
 
 impl<'t> Wrong<'t> {
-    /// At a key of the whole file's table.
+    /// What is wrong at a key of the whole file's table.
     pub fn at(key: &'t str, reason: Reason) -> Self {
         Wrong {
             place: WrongPlace::Top,
@@ -97,7 +97,7 @@ impl<'t> Wrong<'t> {
         }
     }
 
-    /// The same in this table.
+    /// The same fault, in this table.
     pub fn within(self, place: WrongPlace) -> Self {
         Wrong {
             place,

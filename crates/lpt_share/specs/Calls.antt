@@ -12,7 +12,7 @@ use Rattle.lpt_share.specs.declared.call.CallFault.TheVariants as calls
 use Rattle.lpt_share.specs.declared.call.Done.{Done}
 use Rattle.lpt_events.specs.declared.log.SeatLog.{SeatLog}
 
--- a world with a legal journal, which goes on from the given one where one was given
+-- a world with a legal journal, which goes on from the given one if one was given
 abbrev pub MayBe : Option Shown → Shown → Type 0
 MayBe given w = GoesOn given w × IsLegal w
 

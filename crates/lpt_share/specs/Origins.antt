@@ -15,7 +15,7 @@ abbrev pub Continues : Shown → Shown → Type 0
 Continues given w =
     (w.config ≡ given.config) × (w.first ≡ given.first) × Begins given.journal w.journal
 
--- the same where a world was given
+-- the same if a world was given
 abbrev pub GoesOn : Option Shown → Shown → Type 0
 GoesOn None w = ⊤
 GoesOn (Some given) w = Continues given w

@@ -67,7 +67,7 @@ abbrev pub again_event : Again → Event
 again_event (agains.Expire node) = Expire node
 again_event agains.Apply = Apply
 
--- the log has one call more where the event was accepted, which was done; and else the same calls
+-- the log has one call more if the event was accepted, which was done; and otherwise the same calls
 abbrev pub IsAsked : {A : Type 0} → Option Shown → Event → SeatLog → SeatLog
     → Result (Option A) ShareFault → Type 0
 IsAsked given e old new (Ok (Some answer)) =

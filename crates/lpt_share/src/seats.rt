@@ -160,7 +160,7 @@ impl<'a, J: Origin, R: Wait, G: Gate> Pass<'a, J, R, G> {
             .sender_turn(self.rt, log, direction, name, None, self.gate)
     }
 
-    // The next notice; none where those that give it have ended, or the log has enough calls.
+    // The next notice; none if those that give it have ended, or the log has enough calls.
     fn notice<T: Drop>(&self, log: &SeatLog, notices: &Receiver<T>) -> Option<T>
         ensures full { self.now.turns.per_seat ≤ vec_len log.now.calls → result ≡ None }
     {

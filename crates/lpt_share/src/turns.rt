@@ -167,7 +167,7 @@ impl<J: Origin> Shared<J> {
         unreachable!()
     }
 
-    // One call of a turn, which the gate is told of where it is accepted. A refusal is none.
+    // One call of a turn, which the gate is told of if it is accepted. A refusal is none.
     #[tactic(auto, using(crate::proofs::TurnLemmas::refused))]
     pub(crate) fn ask<R: Wait, G: Gate>(
         &self,

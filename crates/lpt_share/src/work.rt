@@ -116,7 +116,7 @@ impl<J: Origin> Shared<J> {
         claim(&mut self.world.lock(rt), log, worker)
     }
 
-    // Commits a job that was prepared. Where it is refused, the preparation is given up.
+    // Commits a job that was prepared. If it is refused, the preparation is given up.
     #[tactic(auto, using(crate::proofs::DoingLemmas::unasked))]
     fn job_committed<R: Wait>(
         &self,
@@ -137,7 +137,7 @@ impl<J: Origin> Shared<J> {
     }
 }
 
-// Prepares a job. Where there is no memory for that, the job stays the worker's.
+// Prepares a job. If there is no memory for that, the job stays the worker's.
 fn prepare_job(alloc: Global, job: (Ticket, Shape, u16)) -> Result<Prepared, ShareFault>
     ensures value { IfOk result (λ p. p ≡ record {
       boot = job.0.boot;
@@ -160,7 +160,7 @@ fn prepare_job(alloc: Global, job: (Ticket, Shape, u16)) -> Result<Prepared, Sha
     }
 }
 
-// The place of the log's next call, where the journal isn't shorter than the seat has seen it.
+// The place of the log's next call, if the journal isn't shorter than the seat has seen it.
 fn next_place<J: Origin>(world: &Held<J>, log: &SeatLog) -> Result<u64, ShareFault>
     ensures place { IfOk result (λ place. place ≡ length world.now.journal) }
     ensures seen { IfOk result (λ place. log.now.seen ≤ place) }
@@ -265,7 +265,7 @@ fn claim<J: Origin>(
     }
 }
 
-// Commits a job under the lock. Where it is refused, the preparation is given up.
+// Commits a job under the lock. If it is refused, the preparation is given up.
 #[tactic(auto, using(crate::proofs::DoingLemmas::refused))]
 fn commit<J: Origin>(
     world: &mut Held<J>,

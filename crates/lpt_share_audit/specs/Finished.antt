@@ -132,7 +132,7 @@ AreSentOnce d (x ∷ xs) =
 -- ---- what is finished
 
 -- whether the logs of both lanes are full that take the packet numbered n: of those of the
--- spacecraft where it goes up, of those of ground where it goes down
+-- spacecraft if it goes up, of those of ground if it goes down
 abbrev pub is_let_off : ℕ → List SeatLog → List Entry → ℕ → Bool
 is_let_off limit logs journal n =
     (are_full limit logs 1 2 && is_put journal Up n)
@@ -151,7 +151,7 @@ IsCarried xs d name parts =
     (is_aborted xs d name ≡ true)
     ⊎ (((k : ℕ) → 1 ≤ k → k ≤ parts → is_sent xs d name k ≡ true) × (is_finished xs d name ≡ true))
 
--- each transaction that was opened from that place on is carried after its opening, where the
+-- each transaction that was opened from that place on is carried after its opening, if the
 -- entries are those from there on; but for those of a sender whose log is full
 abbrev pub AreCarried :
     (limit : ℕ) → List SeatLog → (p : ℕ) → (from : ℕ) → List Entry → List Opening → Type 0
@@ -205,7 +205,7 @@ abbrev pub HasTicked : Shown → List Entry → ℕ → Side → ℕ → Type 0
 HasTicked w xs seat side count =
     (tick_count xs seat side ≡ count) ⊎ (clock w.config (history w) side ≡ greatest_clock)
 
--- the node's timer ticked not more than that, and so often where its log isn't full
+-- the node's timer ticked not more than that, and so often if its log isn't full
 abbrev pub IsTicked : Turns → List SeatLog → Shown → List Entry → Side → Type 0
 IsTicked turns logs w xs side =
     (tick_count xs (timer_seat side) side ≤ turns.ticks)
@@ -215,7 +215,7 @@ IsTicked turns logs w xs side =
 -- Each transaction that was open in the given world or was opened since is sent whole and finished,
 -- or aborted, and no part twice; each packet that was never lost is taken, and none twice; hands
 -- and workers have nothing, and each job is executed; the timers have ticked. What a seat left
--- whose log is full is excused, where nobody else does the same.
+-- whose log is full is excused, if nobody else does the same.
 pub record IsFinished (turns : Turns) (given w : Shown) (logs : List SeatLog) : Type 0 where
   pub at_start : AreOwedCarried turns.per_seat logs w.config.part_size
       (drop (length given.journal) w.journal) (owed_of given)

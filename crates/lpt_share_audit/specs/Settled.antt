@@ -34,7 +34,7 @@ IsSentWhole xs d name parts = (parts < sent_on xs d name 1) × (is_finished xs d
 abbrev pub IsCarriedInOrder : List Entry → Direction → Name → ℕ → Type 0
 IsCarriedInOrder xs d name parts = (is_aborted xs d name ≡ true) ⊎ IsSentWhole xs d name parts
 
--- so is each transaction that was opened from that place on, after its opening, where the entries
+-- so is each transaction that was opened from that place on, after its opening, if the entries
 -- are those from there on; but for those of a sender whose log is full
 abbrev pub AreCarriedInOrder :
     (limit : ℕ) → List SeatLog → (p : ℕ) → (from : ℕ) → List Entry → List Opening → Type 0
@@ -56,7 +56,7 @@ AreOwedInOrder limit logs p xs (o ∷ os) =
     × AreOwedInOrder limit logs p xs os
 
 -- hands, workers and jobs are done with, parts are sent in turn, the timers have ticked, and what
--- was owed or was opened from that place on is carried, where the entries are those from there on
+-- was owed or was opened from that place on is carried, if the entries are those from there on
 abbrev pub AreThrough : Turns → (from : ℕ) → List Owed → Shown → List SeatLog → List Entry → Type 0
 AreThrough turns from owed w logs xs =
     IsIdle w

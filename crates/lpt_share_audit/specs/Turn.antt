@@ -31,7 +31,7 @@ follows (Some a) s = same_name s.name a.name && (s.part == a.part + 1)
 abbrev pub starts : Direction → Sent → List Entry → Bool
 starts d s later = (s.part == 1) && not (is_sent later d s.name 1)
 
--- whether a part may be sent now, where it is one
+-- whether a part may be sent now, if it is one
 abbrev pub is_next : Direction → Option Sent → Option Sent → List Entry → Bool
 is_next d last None later = true
 is_next d last (Some s) later = follows last s || starts d s later

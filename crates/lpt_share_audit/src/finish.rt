@@ -33,8 +33,8 @@ pub fn are_executed(world: &World, limit: u32, logs: &[SeatLog]) -> bool
     world.jobs_queued() == 0 || are_full(limit, logs, 7, 8)
 }
 
-/// Whether a node's timer ticked not more than it was to, and so often if its log isn't full and
-/// the clock isn't at its greatest.
+/// Whether a node's timer ticked no more often than it was to, and as often if its log isn't full
+/// and the clock isn't at its greatest.
 pub fn is_ticked(
     world: &World,
     entries: &[Entry],

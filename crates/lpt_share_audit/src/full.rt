@@ -19,7 +19,7 @@ pub(crate) fn is_full(limit: u32, logs: &[SeatLog], seat: u8) -> bool
     false
 }
 
-/// Whether the logs of both seats have.
+/// Whether the logs of both seats have so many calls.
 pub(crate) fn are_full(limit: u32, logs: &[SeatLog], a: u8, b: u8) -> bool
     ensures { result ≡ are_full limit logs.now a b }
 {

@@ -10,7 +10,7 @@ use lpt_tool::ToolFault;
 use std::io;
 
 /// How the run of a script at this path ends, after it was told why its last line is unreadable,
-/// where it is.
+/// if it is.
 pub fn status_at_end<R: Machine>(
     rt: &R,
     source: &Script<R>,
@@ -24,7 +24,7 @@ pub fn status_at_end<R: Machine>(
     status_after(rt, watched.error(), path, ran)
 }
 
-/// The same, where a read failed of this error or none did.
+/// How the run of a script ends, by the error of a read that failed, if one did.
 pub fn status_after(
     rt: &impl AllocGlobal,
     error: Option<&io::Error>,

@@ -61,7 +61,7 @@ impl<'r, R: Machine> Filled<'r, R> {
         Ok(())
     }
 
-    // What came of a line is given next, with a file's octets where it names one.
+    // What came of a line is given next, with a file's octets if it names one.
     fn end_line(&mut self) -> io::Result<()> {
         let line = ended_line(&self.begun);
         match file_named(line) {
@@ -100,7 +100,7 @@ impl<R: Machine> Read for Filled<'_, R> {
 }
 
 // A line with the octets of the file of this name; with nothing behind its `@`, which no line may
-// have, where they can't be had: then standard error is told why.
+// have, if they can't be had: then standard error is told why.
 fn octets_of(
     rt: &(impl Files + Eprint + AllocGlobal),
     line: &[u8],
@@ -114,7 +114,7 @@ fn octets_of(
     }
 }
 
-// The octets of a file, where it can be read and has at most so many.
+// The octets of a file, if it can be read and has at most so many.
 fn file_found(rt: &(impl Files + Eprint + AllocGlobal), name: &[u8], room: usize) -> FoundOctets {
     let Ok(path) = str::from_utf8(name) else {
         tell_place(rt, "a file's name isn't UTF-8");

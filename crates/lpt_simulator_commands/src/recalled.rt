@@ -34,7 +34,7 @@ pub struct Recalled<R: Machine> {
 }
 
 impl<R: Machine> Recalled<R> {
-    /// What nothing was read of.
+    /// An input of which nothing was read.
     pub fn new(alloc: Global, input: Origin<R>, reach: KeptText) -> Self {
         Recalled {
             input,
@@ -49,7 +49,7 @@ impl<R: Machine> Recalled<R> {
         &self.kept
     }
 
-    // Keeps what was read. Where there is no memory for it, nothing is kept from then on.
+    // Keeps what was read. If there is no memory for it, nothing is kept from then on.
     fn keep(&mut self, octets: &[u8]) {
         match self.reach {
             KeptText::Last => {

@@ -1,4 +1,4 @@
-//! A shell, with a prompt where a terminal is.
+//! A shell, with a prompt at a terminal.
 
 use crate::ends::status_after;
 use crate::filling::Filled;

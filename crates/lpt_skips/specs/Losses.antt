@@ -7,7 +7,7 @@ use Rattle.lpt_skips.specs.declared.wanted.Wanted.{Wanted}
 abbrev pub is_cut_short : Wanted → Skips → Bool
 is_cut_short w s = not w.reading.layout.has_checksum && not (s.stray == 0)
 
--- whether parts weren't read that may be of any message, where any is wanted
+-- whether parts weren't read that may be of any message, if any is wanted
 abbrev pub leaves_unread : Wanted → Skips → Bool
 leaves_unread w s = is_none w.name && not (s.unread == 0)
 

@@ -22,7 +22,7 @@ use Rattle.lpt_skips.specs.declared.why.Why.{Why}
 use Rattle.lpt_skips.specs.declared.why.Why.TheVariants.{Damaged, Stray, OtherApid, OtherDirection, NoNumber, Unread, NoPart}
 use Rattle.lpt_skips.specs.Skipping.{why_name}
 
--- this part size, where it is one and the body is read by it
+-- this part size, if it is one and the body is read by it
 abbrev pub size_tried : Kind → List ℕ → ℕ → Option ℕ
 size_tried kind body p =
     if nat_le 4 p && nat_le p 1024 && is_some (part_in p kind body) then Some p else None
@@ -60,7 +60,7 @@ own_telemetry w p (Ok t) =
     option_map_or (own_body w p t.destination t.body) (carried_kind Down t.service t.subtype) NoPart
 own_telemetry w p (Err e) = NoPart
 
--- a packet of this type, where those of a direction are wanted
+-- a packet of this type, if those of a direction are wanted
 abbrev pub own_typed : Wanted → (p : ℕ) → Direction → PacketKind → Fields → Why
 own_typed w p Up Tc f = own_command w p (tc_verdict f)
 own_typed w p Up Tm f = OtherDirection

@@ -35,12 +35,12 @@ size_shown First len = if nat_le 4 len && nat_le len 1024 then Some len else Non
 size_shown Middle len = None
 size_shown Last len = None
 
--- the same of what is carried, where it is a part
+-- the same of what is carried, if it is a part
 abbrev pub fitting_by : Result Named Skip → Option ℕ
 fitting_by (Ok c) = size_shown c.piece.kind (length c.piece.octets)
 fitting_by (Err e) = None
 
--- a part of this name, where parts of one name are wanted, or of any
+-- a part of this name, if parts of one name are wanted, or of any
 abbrev pub why_name : (wanted : Option Name) → Name → Why
 why_name None name = Taken
 why_name (Some wanted) name = if same_name name wanted then Taken else OtherName name
@@ -83,6 +83,6 @@ why_of w piece.Whole b =
 why_of w piece.Damaged b = Damaged
 why_of w piece.Stray b = Stray (length b)
 
--- why a piece is passed over where these are wanted, or that it isn't
+-- why a piece is passed over if these are wanted, or that it isn't
 abbrev pub why : Wanted → Piece → Why
 why w p = why_of w p.kind p.octets

@@ -44,19 +44,19 @@ words_of_many NoPart = codes " packets carry no part"
 words_of_many Damaged = codes " damaged packets were skipped"
 words_of_many Stray = codes " octets are no packet"
 
--- the part size, or where that isn't known, those that there are; and behind it the one by which
--- parts would be read, where one is known
+-- the part size, or if that isn't known, those that there are; and behind it the one by which
+-- parts would be read, if one is known
 abbrev pub sizes_text : (size fitting : Option ℕ) → List ℕ
 sizes_text None fitting = codes "1 to 65535"
 sizes_text (Some p) None = decimal p
 sizes_text (Some p) (Some fitting) = decimal p ++ (codes ", but part_size = " ++ decimal fitting)
 
--- a name: its identifier alone where it is of the configured source, which is the first argument
+-- a name: its identifier alone if it is of the configured source, which is the first argument
 abbrev pub name_text : (source : ℕ) → Name → List ℕ
 name_text source n =
     if n.user == source then decimal n.id else decimal n.user ++ (47 ∷ decimal n.id)
 
--- the end of what is said: an APID; part sizes; a name, as it is written where this source is
+-- the end of what is said: an APID; part sizes; a name, as it is written if this source is
 -- configured
 abbrev pub ending_of : Wanted → (source : ℕ) → Skips → Topic → List ℕ
 ending_of w source s OtherApid = option_map_or (λ apid. decimal apid) s.apid []
@@ -84,7 +84,7 @@ abbrev pub place_text : (count place : ℕ) → List ℕ
 place_text count place =
     (if count == 1 then codes ", at octet " else codes ", the first at octet ") ++ decimal place
 
--- the same of a topic, where it is known; so many octets come before the stream that is read
+-- the same of a topic, if it is known; so many octets come before the stream that is read
 abbrev pub first_text : (from : ℕ) → Skips → Topic → List ℕ
 first_text from s t =
     option_map_or (λ at. place_text (count_of s t) (count_raised at from)) (first_of s t) []
@@ -100,7 +100,7 @@ line_text w source from s t =
     ++ ((if count_of s t == 1 then words_of_one t else words_of_many t)
     ++ (ending_of w source s t ++ first_text from s t))
 
--- what is told of a topic, where there is something of it
+-- what is told of a topic, if there is something of it
 abbrev pub line_of : Wanted → (source from : ℕ) → Skips → Topic → Option (List ℕ)
 line_of w source from s t = if count_of s t == 0 then None else Some (line_text w source from s t)
 

@@ -11,9 +11,9 @@ use lpt_carried::{Direction, Name};
 use std::alloc::{AllocError, Global};
 
 impl Skips {
-    /// What is told of what was passed over if these were wanted, a line for each reason of
-    /// which there is something, if this source is configured, and so many octets come before the
-    /// stream. The only error is out of memory.
+    /// What is told of what was passed over if these parts were wanted, a line for each reason that
+    /// came up, if this source is configured, and so many octets come before the stream. The only
+    /// error is out of memory.
     pub fn lines(
         &self,
         alloc: Global,
@@ -33,7 +33,7 @@ impl Skips {
         Ok(lines)
     }
 
-    // What is told of a topic, where there is something of it.
+    // What is told of a topic, if there is something of it.
     fn line(
         &self,
         alloc: Global,
@@ -100,7 +100,7 @@ impl Skips {
         }
     }
 
-    // Where the first of a topic is, where that is known, behind so many octets.
+    // Where the first of a topic is, if that is known, behind so many octets.
     fn first(&self, alloc: Global, from: u64, topic: Topic) -> Result<String, AllocError>
         ensures { IfOk result (λ t. string_bytes t ≡ first_text from self.now topic) }
     {
@@ -138,7 +138,7 @@ fn place_text(alloc: Global, count: u64, place: u64) -> Result<String, AllocErro
     }
 }
 
-// A part size, and behind it the one by which parts would be read, where one is known.
+// A part size, and behind it the one by which parts would be read, if one is known.
 fn sizes_text(alloc: Global, size: Option<u32>, fitting: Option<u32>) -> Result<String, AllocError>
     ensures { IfOk result (λ t. string_bytes t ≡ sizes_text size fitting) }
 {

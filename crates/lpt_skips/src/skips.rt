@@ -25,7 +25,7 @@ pub struct Skips {
     pub zeros: u64,
     /// Parts whose body isn't read for the part size.
     pub unread: u64,
-    /// The first part size by which one of these would be.
+    /// The first part size by which one of these would be read.
     pub part_size: Option<u32>,
     /// Where the packet of the first of these begins.
     pub unread_at: Option<u64>,
@@ -44,7 +44,7 @@ pub struct Skips {
 }
 
 impl Skips {
-    /// Nothing was noted.
+    /// Skips of which nothing was noted.
     pub fn new() -> Skips
         ensures { result ≡ nothing_noted }
     {
@@ -67,8 +67,8 @@ impl Skips {
     }
 
     /// Notes the next piece of a stream, of this kind and these octets, if these parts are wanted:
-    /// of one of them no more than its octets. If packets have a checksum, that of a whole one was
-    /// taken before, and is right.
+    /// of a wanted part it counts the octets alone. If packets have a checksum, that of a whole one
+    /// was taken before, and is right.
     pub fn note(&mut self, wanted: &Wanted, kind: PieceKind, octets: &[u8])
         requires { IsSealedBy (cut wanted.now.reading) kind octets.now }
         ensures noted { self.new
@@ -109,7 +109,7 @@ impl Skips {
     }
 
     /// Whether what was passed over may hold messages that are wanted, so that what became whole
-    /// needn't be all of them: parts weren't read, where those of any name are wanted; or reading
+    /// needn't be all of them: parts weren't read, if those of any name are wanted; or reading
     /// ended at octets that are no packet, since packets have no checksum by which a next one is
     /// found.
     pub fn loses(&self, wanted: &Wanted) -> bool

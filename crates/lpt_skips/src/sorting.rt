@@ -27,7 +27,7 @@ impl Wanted {
         }
     }
 
-    // Why a part of this name is.
+    // Why a part of this name is passed over.
     fn why_name(&self, name: Name) -> Why
         ensures { result ≡ why_name self.now.name name }
     {
@@ -38,7 +38,7 @@ impl Wanted {
     }
 }
 
-// Why a packet is that carries no part for this reason.
+// Why a packet is passed over that carries no part for this reason.
 fn why_skip(reading: &Reading, skip: Skip, octets: &[u8]) -> Why
     requires { IsSealedBy (cut reading.now) Whole octets.now }
     ensures { result ≡ why_skip skip (fitting_by (part_carried (sizeless reading.now) octets.now)) }
@@ -53,7 +53,7 @@ fn why_skip(reading: &Reading, skip: Skip, octets: &[u8]) -> Why
     }
 }
 
-// Why a packet is that isn't read as a message of the direction.
+// Why a packet is passed over that isn't read as a message of the direction.
 fn why_unsaid(fault: PusFault) -> Why
     ensures { result ≡ why_unsaid fault }
 {

@@ -19,7 +19,7 @@ source_of s = s.source
 abbrev pub before_of : {S : Type 0} → SourceSpan S → ℕ
 before_of s = s.before
 
--- how many are to be given behind these, where there is a last one
+-- how many are to be given behind these, if there is a last one
 abbrev pub left_of : {S : Type 0} → SourceSpan S → Option ℕ
 left_of s = s.left
 
@@ -27,6 +27,6 @@ left_of s = s.left
 abbrev pub has_failed : {S : Type 0} → SourceSpan S → Bool
 has_failed s = s.failed
 
--- the octets that are still to be given, where those of the source are known
+-- the octets that are still to be given, if those of the source are known
 abbrev pub span_left : {S : Type 0} → (S → Option (List ℕ)) → SourceSpan S → Option (List ℕ)
 span_left remaining s = option_map (cut_out (before_of s) (left_of s)) (remaining (source_of s))

@@ -14,13 +14,13 @@ pub struct SourceSpan<S> {
     source: S,
     // How many octets are still to be passed over.
     before: u64,
-    // How many there are to be given behind these, where there is a last one.
+    // How many there are to be given behind these, if there is a last one.
     left: Option<u64>,
     failed: bool,
 }
 
 impl<S> SourceSpan<S> {
-    /// The octets of a source without so many in front, and so many of these, or all.
+    /// The octets of a source behind so many in front: so many of these, or all.
     pub fn new(source: S, before: u64, left: Option<u64>) -> Self
         ensures source { source_of result ≡ source }
         ensures before { before_of result ≡ before }
@@ -92,7 +92,7 @@ impl<S: Source> SourceSpan<S> {
         true
     }
 
-    // Gives octets, where none is to be passed over any more, or none is left.
+    // Gives octets, if none is to be passed over any more, or none is left.
     fn read_on(&mut self, buf: &mut [u8]) -> Option<usize>
         requires room { 0 < length buf.old }
         requires settled { 0 < before_of self.old → IsAtEnd (S.remaining (source_of self.old)) }

@@ -6,12 +6,12 @@ use Rattle.lpt_memory.specs.Memories.{content_of, Contents}
 use Rattle.lpt_spacecraft.specs.declared.told.Told.{Told}
 use Rattle.lpt_spacecraft.specs.declared.told.Told.TheVariants.{Did}
 
--- what a file has that was replaced by these octets, where that is known
+-- what a file has that was replaced by these octets, if that is known
 abbrev pub replaced_by : (octets : List ℕ) → Option (List ℕ) → Option (List ℕ)
 replaced_by b None = None
 replaced_by b (Some old) = Some b
 
--- what a file has to which a memory was written, where there is such a memory
+-- what a file has to which a memory was written, if there is such a memory
 abbrev pub written_with : (memory : Option (List ℕ)) → Option (List ℕ) → Option (List ℕ)
 written_with None old = old
 written_with (Some m) old = replaced_by m old
@@ -21,7 +21,7 @@ abbrev pub writes_to : (id : ℕ) → Told → Bool
 writes_to id (Did d) = option_eq nat_eq d.wrote (Some id)
 writes_to id _ = false
 
--- what the file of a memory has, behind what is told: the memory, where that was written
+-- what the file of a memory has, behind what is told: the memory, if that was written
 abbrev pub saved_in : List Told → Contents → (id : ℕ) → Option (List ℕ) → Option (List ℕ)
 saved_in told ms id old =
     if list_any (writes_to id) told then written_with (content_of id ms) old else old

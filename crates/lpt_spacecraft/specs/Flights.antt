@@ -17,7 +17,7 @@ use Rattle.lpt_spacecraft.specs.declared.told.Told.{Told}
 use Rattle.lpt_spacecraft.specs.declared.told.Told.TheVariants.{Freed, Skipped}
 
 -- the end, after how many ticks a name that was used is free again, or never at 0, and the names
--- that were used and aren't free yet, the oldest use first; where none is freed none is kept
+-- that were used and aren't free yet, the oldest use first; if none is freed none is kept
 pub record Flight : Type 0 where
   pub end : Onboard
   pub reuse : ℕ
@@ -74,7 +74,7 @@ is_closed Closed = true
 is_closed Free = false
 is_closed Open = false
 
--- a name of this state is freed, where it is closed
+-- a name of this state is freed, if it is closed
 abbrev pub freed_as : State → NodeData → Direction → Name → NodeData
 freed_as Closed d way name = name_retired Craft d way name
 freed_as Free d way name = d
@@ -92,7 +92,7 @@ told_freed s u = if is_closed s then Freed u.direction u.name ∷ [] else []
 abbrev pub is_due : (reuse clock : ℕ) → Use → Bool
 is_due reuse clock u = nat_le (u.since + reuse) clock
 
--- the name that was used first, where it is due
+-- the name that was used first, if it is due
 abbrev pub due_now : (reuse clock : ℕ) → List Use → Option Use
 due_now reuse clock [] = None
 due_now reuse clock (u ∷ us) = if is_due reuse clock u then Some u else None
@@ -148,7 +148,7 @@ inputs_served c f (x ∷ xs) = onward (λ g. inputs_served c g xs) (step c f x)
 
 -- ---- ticks by packets
 
--- a tick, and names freed, where so many packets came since the last
+-- a tick, and names freed, if so many packets came since the last
 abbrev pub tick_at : (every since : ℕ) → List Input
 tick_at every since = if since == every then Ticked ∷ Cleared ∷ [] else []
 
@@ -156,7 +156,7 @@ tick_at every since = if since == every then Ticked ∷ Cleared ∷ [] else []
 abbrev pub counted_on : (every since : ℕ) → ℕ
 counted_on every since = if since + 1 == every then 0 else since + 1
 
--- a packet comes, and a tick behind it, where that many came
+-- a packet comes, and a tick behind it, if that many came
 abbrev pub came_with : (every since : ℕ) → List ℕ → List Input
 came_with every since b = Came b ∷ tick_at every (since + 1)
 

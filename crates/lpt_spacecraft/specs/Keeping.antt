@@ -11,7 +11,7 @@ use Rattle.lpt_spacecraft.specs.declared.spacecraft.Spacecraft.{Spacecraft}
 
 -- ---- as octets
 
--- a memory of this identifier, where there is one: the identifier, its length in 64 bits, its
+-- a memory of this identifier, if there is one: the identifier, its length in 64 bits, its
 -- octets
 abbrev pub kept_memory : ℕ → Option (List ℕ) → List ℕ
 kept_memory id None = []
@@ -30,12 +30,12 @@ kept_head len = codes "LPTK" ++ 1 ∷ [] ++ be len 8
 unfoldable pub kept_octets : (state : List ℕ) → Contents → List ℕ
 kept_octets state ms = octets_sealed (kept_head (length state) ++ state ++ kept_memories 256 ms)
 
--- what was kept last is this spacecraft, its state and its memories, where that is known
+-- what was kept last is this spacecraft, its state and its memories, if that is known
 abbrev pub IsKeptAs : Option (List ℕ) → Spacecraft → Type 0
 IsKeptAs None s = ⊤
 IsKeptAs (Some b) s = b ≡ kept_octets (state_spelled s.node) s.memories
 
--- the length of a memory, where there is one, is a number of 64 bits
+-- the length of a memory, if there is one, is a number of 64 bits
 abbrev pub HasLength : Option (List ℕ) → Type 0
 HasLength None = ⊤
 HasLength (Some m) = length m < 2 ^ 64
@@ -65,7 +65,7 @@ pub record IsAgain (s t : Spacecraft) : Type 0 where
   pub node : t.node ≡ restarted_node s.node
   pub memories : (id : ℕ) → id < 256 → content_of id t.memories ≡ content_of id s.memories
 
--- what is read of what was kept is that, where a number is left for a start
+-- what is read of what was kept is that, if a number is left for a start
 abbrev pub KeptIsRead : Type 0
 KeptIsRead =
     (s t : Spacecraft)

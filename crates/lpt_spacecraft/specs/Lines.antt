@@ -10,12 +10,12 @@ use Rattle.lpt_spacecraft.specs.declared.told.Told.TheVariants.{Took, Did, GaveU
 
 -- The first argument is the configured source, whose names have no source in them.
 
--- a report was sent in so many parts, where one was
+-- a report was sent in so many parts, if one was
 abbrev pub sent_text : ℕ → Option (Name × ℕ) → List ℕ
 sent_text source None = []
 sent_text source (Some x) = transaction_line source (codes "sent") Down x.0 x.1
 
--- what happened, in the words of a script's transcript where it has them
+-- what happened, in the words of a script's transcript if it has them
 abbrev pub told_text : ℕ → Told → List ℕ
 told_text source (Took o) = outcome_text source Up o
 told_text source (Did d) =

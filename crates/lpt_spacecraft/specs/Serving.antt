@@ -68,7 +68,7 @@ request_worked c s =
     let x = job_executed c (read_over c s.memories s.node) s.memories in
     behind x.0.1.packets x.1 (all_sent c x.0.0 x.0.1.opened)
 
--- the same, where something was released
+-- the same, if something was released
 abbrev pub worked_if : Config → Onboard → Option (List ℕ) → Onboard × List (List ℕ)
 worked_if c s None = (s, [])
 worked_if c s (Some m) = request_worked c s
@@ -97,7 +97,7 @@ abbrev pub ticked_by : NodeData → Option NodeFault → NodeData
 ticked_by d None = clock_ticked d
 ticked_by d (Some fault) = d
 
--- what was made, with the report of the reception that is due behind, where one is
+-- what was made, with the report of the reception that is due behind, if one is
 abbrev pub then_expired : Config → NodeData × List (List ℕ) → NodeData × List (List ℕ)
 then_expired c x = (
   (reception_expired Craft c x.0).0,
@@ -105,12 +105,12 @@ then_expired c x = (
       ++ option_to_list (reception_expired Craft c x.0).1.packet,
 )
 
--- the receptions that are due are given up, k of them at most
+-- the receptions that are due expire, k of them at most
 abbrev pub first_expired : Config → NodeData → (k : ℕ) → NodeData × List (List ℕ)
 first_expired c d zero = (d, [])
 first_expired c d (suc k) = then_expired c (first_expired c d k)
 
--- a tick comes: the clock is set on, and all receptions that are due are given up; no more than
+-- a tick comes: the clock is set on, and all receptions that are due expire; no more than
 -- c.receptions are open
 abbrev pub beaten : Config → Onboard → Onboard × List (List ℕ)
 beaten c s =

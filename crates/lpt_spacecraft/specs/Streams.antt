@@ -78,7 +78,7 @@ abbrev pub served_by : Pace → Spacecraft → List FlightEvent → Made
 served_by pace s events =
     inputs_served s.config (new_flight pace.reuse (onboard s)) (inputs_of pace.every 0 0 events)
 
--- The clock answered so, one answer after the other, where it is asked; where it isn't, no tick is
+-- The clock answered so, one answer after the other, if it is asked; if it isn't, no tick is
 -- due.
 abbrev pub Answers : (is_asked : Bool) → (before after : Option (List ℕ)) → List ℕ → Type 0
 Answers true before after dues = Consumes before after dues
@@ -98,7 +98,7 @@ abbrev pub length_of : List FlightEvent → ℕ
 length_of events = length (stretch_octets (stretches_of events))
 
 -- Work stops there: behind so many octets, before this rest; and before octets with which no packet
--- begins only where these aren't passed over.
+-- begins only if these aren't passed over.
 abbrev pub StopsAt : (passing : Bool) → Stop → (len : ℕ) → (rest : List ℕ)
     → (after : Option (List ℕ)) → Type 0
 StopsAt passing End len rest after = (rest ≡ []) × IsAtEnd after

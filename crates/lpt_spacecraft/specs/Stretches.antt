@@ -1,4 +1,4 @@
--- A stream cut into packets by the lengths that their headers say, where octets with which none can
+-- A stream cut into packets by the lengths that their headers say, if octets with which none can
 -- begin are passed over.
 use Rattle.std.specs.Prelude.{◌≡◌, ◌⊎◌, ◌<◌, ◌≤◌, ◌++◌, ℕ, Bool, true, false, List, [], ◌∷◌, length, take, drop, ⊤}
 use Rattle.lpt_stream.specs.Pieces.{Piece, begins, is_version, lookahead, may_begin}
@@ -50,7 +50,7 @@ pub record IsRun (n : ℕ) (b : List ℕ) : Type 0 where
   pub none : (k : ℕ) → 0 < k → k < n → NeverBegins (drop k b)
   pub next : (begins_again (drop n b) ≡ true) ⊎ IsFront (drop n b)
 
--- each is a packet, or, where runs are passed over, a run, with the others and a rest behind it
+-- each is a packet, or, if runs are passed over, a run, with the others and a rest behind it
 abbrev pub AreStretches : (passing : Bool) → List Stretch → (rest : List ℕ) → Type 0
 AreStretches passing [] rest = ⊤
 AreStretches passing (Framed b ∷ ss) rest = IsFrame b × AreStretches passing ss rest

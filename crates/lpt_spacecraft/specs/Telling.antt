@@ -42,12 +42,12 @@ abbrev pub sent_in : Config → Option (Name × List ℕ) → Option (Name × �
 sent_in c None = None
 sent_in c (Some x) = Some (x.0, part_count (length x.1) c.part_size)
 
--- the memory of an access, where it writes
+-- the memory of an access, if it writes
 abbrev pub written_of : Option Access → Option ℕ
 written_of None = None
 written_of (Some a) = if a.is_write then Some a.memory else None
 
--- the memory that a message writes to, where it does: that of its first access
+-- the memory that a message writes to, if it does: that of its first access
 abbrev pub written_by : Meaning → Option ℕ
 written_by m = written_of (slice_get (accesses m) 0)
 
@@ -74,7 +74,7 @@ front_done c ms d = done_in c (written_at (head_of d.jobs.jobs)) (job_executed c
 abbrev pub work_done : Config → Onboard → Done
 work_done c s = front_done c s.memories (read_over c s.memories s.node)
 
--- the same, where something was released
+-- the same, if something was released
 abbrev pub done_if : Config → Onboard → Option (List ℕ) → Option Done
 done_if c s None = None
 done_if c s (Some m) = Some (work_done c s)
@@ -93,7 +93,7 @@ taken_in c s b =
 
 -- ---- what is told
 
--- what became of a request, where there was one
+-- what became of a request, if there was one
 abbrev pub did : Option Done → List Told
 did None = []
 did (Some d) = Did d ∷ []
@@ -102,27 +102,27 @@ did (Some d) = Did d ∷ []
 abbrev pub took : Taken → List Told
 took t = Took t.outcome ∷ did t.done
 
--- the reception of a name was given up, where one was
+-- the reception of a name expired, if one did
 abbrev pub gave_up : Option Name → List Told
 gave_up None = []
 gave_up (Some name) = GaveUp name ∷ []
 
--- the receptions that are due are given up, k of them at most
+-- the receptions that are due expire, k of them at most
 abbrev pub first_given_up : Config → NodeData → (k : ℕ) → List Told
 first_given_up c d zero = []
 first_given_up c d (suc k) = first_given_up c d k ++ gave_up (due c (first_expired c d k).0)
 
--- a tick comes: the receptions that are given up
+-- a tick comes: the receptions that expire
 abbrev pub given_up : Config → Onboard → List Told
 given_up c s = first_given_up c (ticked_by s.node (refusal_tick s.node)) c.receptions
 
--- the name that a packet has used up, where its reception has ended
+-- the name that a packet has used up, if its reception has ended
 abbrev pub ended_by : Outcome → Option (Direction × Name)
 ended_by (Released name len) = Some (Up, name)
 ended_by (Broken name reason) = Some (Up, name)
 ended_by _ = None
 
--- the name that this has used up, where it has
+-- the name that this has used up, if it has
 abbrev pub name_used : Told → Option (Direction × Name)
 name_used (Took o) = ended_by o
 name_used (Did d) = option_map (λ x. (Down, x.0)) d.sent
@@ -136,12 +136,12 @@ abbrev pub names_at : NodeData → Direction → Marks
 names_at d Up = d.receiving.ledger
 names_at d Down = d.sending.ledger
 
--- where a source has no free name left, that is told
+-- if a source has no free name left, that is told
 abbrev pub none_left : Option Name → Direction → (source : ℕ) → List Told
 none_left None way source = UsedUp way source ∷ []
 none_left (Some name) way source = []
 
--- the same, of the source of a name that was used up, where one was
+-- the same, of the source of a name that was used up, if one was
 abbrev pub used_up : NodeData → Option (Direction × Name) → List Told
 used_up d None = []
 used_up d (Some x) = none_left (least_free_in (names_at d x.0) x.1.source) x.0 x.1.source

@@ -16,7 +16,7 @@ use Rattle.lpt_spacecraft.specs.declared.spacecraft.Spacecraft.{Spacecraft}
 use Rattle.lpt_spacecraft.specs.declared.stop.Stop.{Stop}
 use Rattle.lpt_spacecraft.specs.declared.told.Told.{Told}
 
--- what was given or handed over, where that is known, grows by these
+-- what was given or handed over, if that is known, grows by these
 abbrev pub Gains : (old new : Option (List Happening)) → List Happening → Type 0
 Gains None new xs = ⊤
 Gains (Some ys) None xs = ⊥

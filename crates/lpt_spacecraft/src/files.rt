@@ -14,7 +14,7 @@ pub trait WholeFile: Drop {
     /// Why it couldn't be replaced.
     type Fault: Drop;
 
-    // The octets that it has, where they are known.
+    // The octets that it has, if they are known.
     ghost content: { Self → Option (List ℕ) };
 
     /// Replaces all that it has by these octets.
@@ -39,7 +39,7 @@ pub enum KeepFault<E> {
 /// the memories that are saved.
 #[derive(Drop)]
 pub struct KeptFiles<F: WholeFile> {
-    // The file of the state, where it is kept.
+    // The file of the state, if it is kept.
     state: Option<F>,
     // The files of memories that are saved, each beside the memory's identifier.
     saved: Vec<(u8, F)>,
@@ -90,7 +90,7 @@ impl<F: WholeFile> KeptFiles<F> {
         failure
     }
 
-    // Replaces the file of the state, where it is kept, and then those of the memories that were
+    // Replaces the file of the state, if it is kept, and then those of the memories that were
     // written.
     fn write(&mut self, craft: &Spacecraft, told: &[Told]) -> Result<(), KeepFault<F::Fault>>
         ensures kept { OnOk result
@@ -153,7 +153,7 @@ pub fn save_one<F: WholeFile>(file: &mut F, craft: &Spacecraft, id: u8) -> Resul
     }
 }
 
-// Replaces each file by the memory of its identifier, where that was written.
+// Replaces each file by the memory of its identifier, if that was written.
 fn save_written<F: WholeFile>(
     files: &mut [(u8, F)],
     craft: &Spacecraft,
@@ -168,7 +168,7 @@ fn save_written<F: WholeFile>(
     Ok(())
 }
 
-// Replaces a file by the memory of this identifier, where that was written.
+// Replaces a file by the memory of this identifier, if that was written.
 fn save_if_written<F: WholeFile>(
     file: &mut F,
     id: u8,

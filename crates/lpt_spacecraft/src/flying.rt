@@ -12,7 +12,7 @@ use crate::pace::PaceCourse;
 use crate::{Spacecraft, Told};
 use lpt_text::{Sink, StreamFault};
 
-// Ticks as often as is due by the clock, takes a packet, and ticks behind it where that is due, and
+// Ticks as often as is due by the clock, takes a packet, and ticks behind it if that is due, and
 // writes what they make; adds what there is to tell.
 pub(crate) fn serve_one<K: Sink>(
     craft: &mut Spacecraft,
@@ -80,7 +80,7 @@ pub(crate) fn tick_all<K: Sink>(
     Ok(())
 }
 
-// Takes a packet, and ticks behind it where that is due, and adds what there is to tell.
+// Takes a packet, and ticks behind it if that is due, and adds what there is to tell.
 fn take_next<K: Sink>(
     craft: &mut Spacecraft,
     course: &mut PaceCourse,

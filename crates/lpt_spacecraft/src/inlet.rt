@@ -25,7 +25,7 @@ pub trait Inlet {
     ghost use Rattle.lpt_spacecraft.specs.Waiting.{Gains};
     ghost use Rattle.lpt_text.specs.Streams.{ReadEnds};
 
-    // What it gave so far, where that is known.
+    // What it gave so far, if that is known.
     ghost given: { Self → Option (List Happening) };
 
     // Whether it has failed.
@@ -48,7 +48,7 @@ pub trait Relay {
     ghost use Rattle.lpt_spacecraft.specs.declared.inlet.Happening.{Happening};
     ghost use Rattle.lpt_spacecraft.specs.Waiting.{Gains};
 
-    // What was handed over, where that is known.
+    // What was handed over, if that is known.
     ghost handed: { Self → Option (List Happening) };
 
     // Whether more is taken.

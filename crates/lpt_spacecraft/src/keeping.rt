@@ -10,9 +10,10 @@ ghost use Rattle.lpt_spacecraft.specs.Keeping.{IsKeptAs};
 use crate::{Spacecraft, Told};
 use lpt_text::{Sink, StreamFault, write_out};
 
-/// If the state of a spacecraft and its memories are kept, one in place of the other.
+/// Where the state of a spacecraft and its memories are kept, each time in place of what was kept
+/// before.
 pub trait Keeper {
-    // The octets that were kept last, where they are known.
+    // The octets that were kept last, if they are known.
     ghost kept: { Self → Option (List ℕ) };
 
     // What the files of memories have, each beside the memory's identifier.
@@ -26,7 +27,7 @@ pub trait Keeper {
         ensures saved { IsTrue result
             → saved self.new ≡ map (saved_by told.now craft.now.memories) (saved self.old) }
 
-        // Where it couldn't, it is kept as it was last, or as it is.
+        // If it couldn't, what is kept is the spacecraft as it was kept last, or as it is.
         ensures whole { (kept self.new ≡ kept self.old) ⊎ IsKeptAs (kept self.new) craft.now };
 }
 
@@ -44,7 +45,7 @@ impl Keeper for Unkept {
     }
 }
 
-// Keeps a spacecraft of which this is told, where that or a tick may have changed what is kept of
+// Keeps a spacecraft of which this is told, if that or a tick may have changed what is kept of
 // it; answers whether it is kept as it is.
 pub(crate) fn keep_changed<H: Keeper>(
     keeper: &mut H,
@@ -69,9 +70,9 @@ fn any_changes(told: &[Told]) -> bool
     told.iter().any(|one| one.changes())
 }
 
-/// If what a spacecraft made is passed on, and nothing else is written.
+/// Where what a spacecraft made is passed on, and nothing else is written.
 pub(crate) trait Outlet {
-    // The octets that were written, where they are known.
+    // The octets that were written, if they are known.
     ghost contents: { Self → Option (List ℕ) };
 
     // Whether a write has failed or taken nothing.

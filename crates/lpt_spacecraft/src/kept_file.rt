@@ -104,7 +104,7 @@ fn add_memories(octets: &mut Vec<u8>, memories: &Memories) -> Result<(), AllocEr
     Ok(())
 }
 
-// Appends a memory, where there is one of this identifier. The only error is out of memory.
+// Appends a memory, if there is one of this identifier. The only error is out of memory.
 fn add_memory(octets: &mut Vec<u8>, id: u8, content: Option<&[u8]>) -> Result<(), AllocError>
     ensures octets { OnOk result (octets.new.items
         ≡ octets.old.items ++ kept_memory id (option_map (λ x. x.now) content.entry)) }

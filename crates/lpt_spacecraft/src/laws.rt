@@ -14,8 +14,8 @@ pub fn kept_is_read()
 {}
 
 /// What a spacecraft takes of a stream are its pieces by the cut `Resumed`, as other readers of
-/// streams find them, up to the rest: each packet, and each octet that is passed over. If none are,
-/// they are those by lengths alone.
+/// streams find them, up to the rest: each packet, and each octet that is passed over. If no octets
+/// are passed over, they are the pieces by lengths alone.
 pub fn stretches_are_pieces()
     ensures resumed { (passing : Bool) (stream : List ℕ) (stretches : List Stretch)
         (rest : List ℕ) → IsOctets stream → IsCutInto passing stream stretches rest

@@ -1,7 +1,7 @@
 //! The spacecraft's end over a stream of packets. Each packet goes to a node; each request that is
-//! released is read and executed at once; what is reported of it is written, in order, and a
-//! report that is too long for a packet in all its parts. Ticks come every so many packets, or by a
-//! clock, and what is due then is given up; so many ticks after its use a name is free again, if
+//! released is read and executed at once; what is reported of it is written, in order, and a report
+//! that is too long for a packet in all its parts. Ticks come every so many packets, or by a clock,
+//! and a reception that is due then expires; so many ticks after its use a name is free again, if
 //! that is asked for. What outlasts a machine that dies is kept before anything that was made is
 //! written. What happens is told.
 //!

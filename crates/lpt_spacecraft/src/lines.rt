@@ -44,7 +44,7 @@ fn print_done(alloc: Global, source: u16, done: Done) -> Result<String, AllocErr
     Ok(text)
 }
 
-// The line of a report that was sent in parts, where one was.
+// The line of a report that was sent in parts, if one was.
 fn print_sent(alloc: Global, source: u16, sent: Option<(Name, u16)>) -> Result<String, AllocError>
     ensures { IfOk result (λ t. string_bytes t ≡ sent_text source sent) }
 {

@@ -21,7 +21,8 @@ pub struct Pace {
     pub clocked: bool,
     /// How many ticks after its use a name is free again; at 0 never.
     pub reuse: u32,
-    /// Whether octets with which no packet can begin are passed over; else they end the stream.
+    /// Whether octets with which no packet can begin are passed over; otherwise they end the
+    /// stream.
     pub passing: bool,
 }
 
@@ -143,7 +144,7 @@ impl PaceCourse {
         self.use_name(direction, name, craft.clock())
     }
 
-    // Remembers that a name was used at this clock, where names are freed.
+    // Remembers that a name was used at this clock, if names are freed.
     fn use_name(&mut self, direction: Direction, name: Name, clock: u32) -> Result<(), StreamFault>
         ensures uses { OnOk result (self.new.uses.items ≡ self.old.uses.items
             ++ use_of self.old.pace.reuse clock (Some (direction, name))) }
@@ -193,7 +194,7 @@ impl PaceCourse {
         Ok(())
     }
 
-    // The name that was used first, where that is so many ticks before this clock as is asked for.
+    // The name that was used first, if that is so many ticks before this clock as is asked for.
     fn due(&self, clock: u32) -> Option<Use>
         ensures { result ≡ due_now self.now.pace.reuse clock self.now.uses.items }
     {
@@ -210,7 +211,7 @@ impl PaceCourse {
     }
 }
 
-// Frees a name that was used, where it is closed, and adds that. The only error is out of memory.
+// Frees a name that was used, if it is closed, and adds that. The only error is out of memory.
 fn free(craft: &mut Spacecraft, used: Use, told: &mut Vec<Told>) -> Result<(), StreamFault>
     ensures node { craft.new.node.at ≡ name_freed craft.old.node.at used }
     ensures told { OnOk result (told.new.items

@@ -90,7 +90,7 @@ pub fn serve_stream<P: Peer, C: Clock, H: Keeper, L: Listener, K: Sink>(
     Err(StreamFault::Read)
 }
 
-// Ticks as often as is due, takes a packet, and ticks behind it where that is due. What they make
+// Ticks as often as is due, takes a packet, and ticks behind it if that is due. What they make
 // is written once the spacecraft is kept, and then what there is to tell is told.
 pub(crate) fn serve_packet<H: Keeper, L: Listener, K: Outlet>(
     craft: &mut Spacecraft,

@@ -1,6 +1,6 @@
-//! If the work on a stream stopped.
+//! Where the work on a stream stopped.
 
-/// If the work on a stream stopped. A place is how many octets of the stream come before it; one
+/// Where the work on a stream stopped. A place is how many octets of the stream come before it; one
 /// beyond 2^64 - 1 is told as that.
 #[derive(Clone, Copy, Debug, PartialEq, Eq)]
 pub enum Stop {

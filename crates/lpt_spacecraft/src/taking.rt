@@ -225,7 +225,7 @@ impl Spacecraft {
     }
 }
 
-// The memory that a message writes to, where it does.
+// The memory that a message writes to, if it does.
 fn written_by(reading: &Reading) -> Option<u8>
     ensures { result ≡ written_by (source_meaning reading.now) }
 {

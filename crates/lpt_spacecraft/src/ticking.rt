@@ -14,8 +14,8 @@ use lpt_node::{Expired, NodeFault};
 use lpt_text::{Sink, StreamFault};
 
 impl Spacecraft {
-    /// Sets the clock on, gives up all receptions that are due, writes what is reported, and adds
-    /// what is given up. At its end the clock stands.
+    /// Sets the clock on, ends all receptions that are due, writes what is reported, and adds what
+    /// has expired. A clock at its greatest value stays.
     ///
     /// Errors: `Write` if a write failed; `Memory`. A front part of what would be reported stays
     /// written.
@@ -39,8 +39,7 @@ impl Spacecraft {
         self.give_up(self.config.receptions, told, out)
     }
 
-    // Gives up the receptions that are due, so many at most, writes what is reported, and adds
-    // them.
+    // Ends the receptions that are due, so many at most, writes what is reported, and adds them.
     fn give_up<K: Sink>(
         &mut self,
         most: u32,
@@ -70,7 +69,7 @@ impl Spacecraft {
         Ok(())
     }
 
-    // Gives up the reception that is due, where one is, writes what is reported, and adds it.
+    // Ends the reception that is due, if one is, writes what is reported, and adds it.
     fn give_up_one<K: Sink>(&mut self, told: &mut Vec<Told>, out: &mut K) -> Result<(), StreamFault>
         ensures told { OnOk result (told.new.items
             ≡ told.old.items ++ gave_up (due self.old.config self.old.node.at)) }

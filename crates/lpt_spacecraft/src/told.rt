@@ -13,7 +13,7 @@ pub enum Told {
     Took(Outcome),
     /// A request was executed: what became of it.
     Did(Done),
-    /// The reception of this name was given up for its age.
+    /// The reception of this name expired.
     GaveUp(Name),
     /// The name is free again.
     Freed(Direction, Name),
@@ -51,7 +51,7 @@ pub trait Listener {
     ghost use Rattle.lpt_spacecraft.specs.declared.told.Told.{Told};
     ghost use Rattle.lpt_spacecraft.specs.Telling.{Hears};
 
-    // What was told so far, where that is known.
+    // What was told so far, if that is known.
     ghost heard: { Self → Option (List Told) };
 
     /// Is told something more.
@@ -65,7 +65,7 @@ impl Told {
     ghost use Rattle.lpt_spacecraft.specs.Changes.{changes};
     ghost use Rattle.lpt_spacecraft.specs.Files.{writes_to};
 
-    // The name that this has used up, with the direction of its message, where it has.
+    // The name that this has used up, with the direction of its message, if it has.
     pub(crate) fn name_used(&self) -> Option<(Direction, Name)>
         ensures { result ≡ name_used self.now }
     {

@@ -26,7 +26,7 @@ pub(crate) fn write_all<K: Sink>(out: &mut K, packets: &[Octets]) -> Result<(), 
     Ok(())
 }
 
-// Writes a packet, where there is one.
+// Writes a packet, if there is one.
 pub(crate) fn write_one<K: Sink>(out: &mut K, packet: Option<Octets>) -> Result<(), StreamFault>
     ensures ok { OnOk result (Appends (K.contents out.old) (K.contents out.new)
         (all_octets (option_to_list packet))) }

@@ -60,7 +60,7 @@ MayBring c p f Ticked = ⊤
 MayBring c p f (Astray place len) = ⊤
 MayBring c p f Cleared = CanMakeAll c p (free_moves (step c f Cleared).told)
 
--- the message that it releases, where it releases one, is octets
+-- the message that it releases, if it releases one, is octets
 abbrev pub ReleasesOctets : Config → Onboard → Input → Type 0
 ReleasesOctets c s (Came b) =
     IfSome (packet_accepted Craft c s.node (arrival Craft c.apid c.part_size b)).1.released IsOctets

@@ -6,7 +6,7 @@ ghost use Rattle.lpt_spacecraft_moves.specs.Moves.{InputsAreMoves};
 /// What the spacecraft's end makes of a packet that the network may hand over, of a tick, of names
 /// that may be freed, and of octets that are passed over, is a list of moves of two ends apart, all
 /// of the spacecraft alone, each of which can happen. They come to the same end, and put the same
-/// packets out, in their order. Of octets that are passed over it is no move.
+/// packets out, in their order. Octets that are passed over make no move.
 ///
 /// A name of a message that comes up may be freed if its sender is closed and no reception of it
 /// is open; one of a report, if ground has freed it. No part of it may be handed over any more.

@@ -5,12 +5,12 @@ use Rattle.lpt_text.specs.Items.{items_of}
 
 -- ---- an item
 
--- the number behind the hyphen; the last part's where there is none
+-- the number behind the hyphen; the last part's if there is none
 abbrev pub end_of : ℕ → List ℕ → Option ℕ
 end_of last [] = Some last
 end_of last (b ∷ bs) = number_of last (b ∷ bs)
 
--- two numbers, where both are there, the first is at least 1, and the second at least the first
+-- two numbers, if both are there, the first is at least 1, and the second at least the first
 abbrev pub in_order : Option ℕ → Option ℕ → Option (ℕ × ℕ)
 in_order (Some a) (Some b) = if nat_le 1 a && nat_le a b then Some (a, b) else None
 in_order (Some a) None = None
@@ -36,7 +36,7 @@ run a (suc n) = a ∷ run (a + 1) n
 abbrev pub numbers_in : ℕ × ℕ → List ℕ
 numbers_in r = run r.0 (r.1 + 1 - r.0)
 
--- numbers, and those behind them, where both are there
+-- numbers, and those behind them, if both are there
 abbrev pub numbers_followed : Option (ℕ × ℕ) → Option (List ℕ) → Option (List ℕ)
 numbers_followed (Some r) (Some ns) = Some (numbers_in r ++ ns)
 numbers_followed (Some r) None = None

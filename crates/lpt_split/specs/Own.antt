@@ -52,7 +52,7 @@ pub record ArePackets (c : Config) (w : Wanted) (m octets : List ℕ) : Type 0 w
   pub are : octets ≡ written_in w.writing.form c.clock
       (split_of c w.writing.direction (name_of w) m w.first numbers)
 
--- the octets that are wanted of a message: those packets; or the message itself as one, where it
+-- the octets that are wanted of a message: those packets; or the message itself as one, if it
 -- isn't split and may go as it is
 abbrev pub AreWanted : Config → Wanted → (m octets : List ℕ) → Type 0
 AreWanted c w m octets =

@@ -57,7 +57,7 @@ fn read_range(item: &[u8], last: u32) -> Option<(u32, u32)>
     }
 }
 
-// Two numbers, where both are there and in order.
+// Two numbers, if both are there and in order.
 fn in_order(from: Option<u32>, to: Option<u32>) -> Option<(u32, u32)>
     ensures { result ≡ in_order from to }
 {
@@ -68,7 +68,7 @@ fn in_order(from: Option<u32>, to: Option<u32>) -> Option<(u32, u32)>
     Some((from, to))
 }
 
-// The number behind a hyphen; the last part's where there is none.
+// The number behind a hyphen; the last part's if there is none.
 fn read_end(digits: &[u8], last: u32) -> Option<u32>
     ensures value { result ≡ end_of last digits.now }
     ensures bound { IfSome result (λ n. n ≤ last) }
@@ -79,7 +79,7 @@ fn read_end(digits: &[u8], last: u32) -> Option<u32>
     read_bounded(digits, last)
 }
 
-// The number that digits spell, where it is at most the last part's.
+// The number that digits spell, if it is at most the last part's.
 fn read_bounded(digits: &[u8], last: u32) -> Option<u32>
     ensures value { result ≡ number_of last digits.now }
     ensures bound { IfSome result (λ n. n ≤ last) }

@@ -50,7 +50,7 @@ pub fn split_message<S: Source, K: Sink>(
     }
 }
 
-// Writes the packets of the parts that are wanted of a message, where each can be made.
+// Writes the packets of the parts that are wanted of a message, if each can be made.
 fn write_split<K: Sink>(
     alloc: Global,
     wanted: &Wanted<'_>,
@@ -76,7 +76,7 @@ fn write_split<K: Sink>(
     }
 }
 
-// How the split of a message ends, and what is written of it where all that is wanted is made. The
+// How the split of a message ends, and what is written of it if all that is wanted is made. The
 // only error is out of memory.
 fn split_octets(
     alloc: Global,

@@ -15,9 +15,9 @@ use std::alloc::Global;
 
 // The packet that carries a part, of this sequence count. Telemetry has message type counter 0.
 //
-// Errors, the first that applies: `Unfit` where the identifier, the number, the source or another
-// field doesn't fit the layout; `TooLong` where the packet would have more than 65,542 octets;
-// `Memory` where memory runs out.
+// Errors, the first that applies: `Unfit` if the identifier, the number, the source or another
+// field doesn't fit the layout; `TooLong` if the packet would have more than 65,542 octets;
+// `Memory` if memory runs out.
 pub(crate) fn part_packet(
     alloc: Global,
     writing: &Writing<'_>,

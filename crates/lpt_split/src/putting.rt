@@ -48,7 +48,7 @@ pub fn put_split(
     }
 }
 
-// Puts a message that isn't split behind octets as it is, where it may go so.
+// Puts a message that isn't split behind octets as it is, if it may go so.
 fn put_whole(
     wanted: &Wanted<'_>,
     message: &[u8],
@@ -65,7 +65,7 @@ fn put_whole(
     Ok(SplitEnd::Written(wanted.first))
 }
 
-// Puts the packets of these parts behind octets, where each can be made.
+// Puts the packets of these parts behind octets, if each can be made.
 fn put_numbers(
     alloc: Global,
     wanted: &Wanted<'_>,

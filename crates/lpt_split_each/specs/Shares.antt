@@ -21,7 +21,7 @@ list_of (p ∷ ps) id = if p.id == id then Some p.parts.now else list_of ps id
 abbrev pub all_parts : List ℕ
 all_parts = 49 ∷ 45 ∷ []
 
--- the list of the parts that are wanted under an identifier: of all parts, where nothing is picked
+-- the list of the parts that are wanted under an identifier: of all parts, if nothing is picked
 abbrev pub parts_picked : List Pick → ℕ → Option (List ℕ)
 parts_picked [] id = Some all_parts
 parts_picked (p ∷ ps) id = list_of (p ∷ ps) id

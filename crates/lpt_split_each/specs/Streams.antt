@@ -89,7 +89,7 @@ abbrev pub WritesPart : EachWanted → (old new : Option (List ℕ)) → List (L
 WritesPart w old new packets =
     AppendsPart old new (written_in w.writing.form w.writing.clock packets)
 
--- they were written, where they are those of all of the stream; else nothing was
+-- they were written, if they are those of all of the stream; else nothing was
 abbrev pub WritesAll : EachWanted → (all : Bool) → (old new : Option (List ℕ))
     → List (List ℕ) → Type 0
 WritesAll w true old new packets = Writes w old new packets

@@ -24,7 +24,7 @@ EndsBefore w next place kind m held end =
     ⊎ ((kind ≡ Whole) × (((identifiers w ≤ next) × (end ≡ NoIdentifier place))
     ⊎ ((next < identifiers w) × (IsMessage w.writing m → ⊥) × (end ≡ NoMessage place))))
 
--- what is wanted of the messages before the place where it ends; where work broke off, anything
+-- what is wanted of the messages before the place where it ends; if work broke off, anything
 abbrev pub MakesPackets : EachWanted → Result EachSplit StreamFault
     → (before after old new : Option (List ℕ)) → Type 0
 MakesPackets w (Ok s) before after old new =

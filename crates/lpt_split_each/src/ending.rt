@@ -15,14 +15,14 @@ pub enum EachEnd {
     /// Before a packet that is no message of its direction, at this place: it is damaged, idle, or
     /// of the other packet type.
     NoMessage(u64),
-    /// Before a message that isn't split, so.
+    /// Before a message that isn't split, for this reason.
     Unsplit(SplitEnd),
     /// Before a packet for which no identifier is left, at this place.
     NoIdentifier(u64),
 }
 
-/// What a split of a stream's packets did. Everything that is wanted was written if it ended at
-/// the stream's end, and else nothing.
+/// What a split of a stream's packets did. Everything that is wanted was written if it ended at the
+/// stream's end, and otherwise nothing.
 #[derive(Clone, Copy)]
 pub struct EachSplit {
     /// The identifier behind that of the last message that was taken, up to 4,294,967,296.

@@ -15,14 +15,14 @@ use std::alloc::Global;
 pub(crate) enum One {
     // What is wanted of it was written; this is the sequence count behind it.
     Written(u16),
-    // It isn't split, so, and nothing was written.
+    // It isn't split, for this reason, and nothing was written.
     Unsplit(SplitEnd),
 }
 
 // Writes the packets that are wanted of a message under this identifier, of sequence counts from
 // this one on.
 //
-// Errors: `Write` where a write failed; `Memory`.
+// Errors: `Write` if a write failed; `Memory`.
 pub(crate) fn split_one<K: Sink>(
     alloc: Global,
     wanted: &EachWanted<'_>,

@@ -13,7 +13,7 @@ pub struct Pick<'a> {
     pub parts: &'a [u8],
 }
 
-// The list of the parts that are wanted under this identifier: all, where nothing is picked; else
+// The list of the parts that are wanted under this identifier: all, if nothing is picked; otherwise
 // those that the first pick of it names, or none.
 pub(crate) fn parts_picked<'a>(picks: &[Pick<'a>], id: u32) -> Option<&'a [u8]>
     ensures { option_map (λ list. list.now) result ≡ parts_picked picks.now id }

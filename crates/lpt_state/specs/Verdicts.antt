@@ -95,7 +95,7 @@ verdict_told side c (Err e) = Err e
 abbrev pub reading : Side → Config → List ℕ → Result NodeView StateFault
 reading side c b = verdict_told side c (verdict side c b)
 
--- the fault is the first, or out of memory where there is none
+-- the fault is the first, or out of memory if there is none
 abbrev pub StateRefusedBy : Result NodeView StateFault → StateFault → Type 0
 StateRefusedBy (Ok v) e = e ≡ fault.Memory
 StateRefusedBy (Err first) e = e ≡ first

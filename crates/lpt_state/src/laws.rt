@@ -16,8 +16,8 @@ pub fn written_is_read()
         → reading v.side v.config (state_spelled v) ≡ Ok (restarted_node v) }
 {}
 
-/// So it is under another configuration that differs in limits and first clock alone: what is read
-/// is what a restart within these limits leaves.
+/// Under another configuration that differs in limits and first clock alone, what is read is what a
+/// restart within these limits leaves.
 pub fn written_is_read_as()
     ensures { (v : NodeView) (c : Config) → IsEnd v → v.at.boot + 1 < 2 ^ 64
         → IsBoundAlike v.config c → reading v.side c (state_spelled v) ≡ Ok (restarted_as c v) }

@@ -149,7 +149,7 @@ fn ascends(octets: &[u8]) -> bool
     true
 }
 
-// Whether a run has a name, and stands behind the one before it, where there is one.
+// Whether a run has a name, and stands behind the one before it, if there is one.
 fn goes_on(before: Option<NameRun>, this: NameRun) -> bool
     ensures { result ≡ (has_name this && stands before this) }
 {

@@ -60,7 +60,7 @@ pub record Adds (old new : PacketBuffer) (before after : Option (List ℕ))
   pub step : is_in_step new ≡ is_in_step old
   pub cut : cut_of new ≡ cut_of old
 
--- what a read gives: octets, or the end of the stream; or that it failed; where memory runs out,
+-- what a read gives: octets, or the end of the stream; or that it failed; if memory runs out,
 -- octets were read and lost
 abbrev pub Fills :
     Result Unit StreamFault → (old new : PacketBuffer) → (before after : Option (List ℕ))
@@ -114,7 +114,7 @@ FindsPiece (Err faults.Memory) old new before after had failed =
     (lost : List ℕ) × Consumes before after lost × (failed ≡ had)
 FindsPiece (Err faults.Write) old new before after had failed = ⊥
 
--- what such a search gives where a sink passes on what it has kept back before each read: the same;
+-- what such a search gives if a sink passes on what it has kept back before each read: the same;
 -- or that the sink failed, with all that was read held
 abbrev pub FindsPassing :
     Result (Option Found) StreamFault → (old new : PacketBuffer) → (before after : Option (List ℕ))

@@ -10,7 +10,7 @@ shows s e b =
     not (length b == 0)
     && (begins s (take lookahead b) || e || not (waits s (take lookahead b)))
 
--- the piece in front, where they show it
+-- the piece in front, if they show it
 abbrev pub shown_piece : (in_step is_end : Bool) → List ℕ → Option Piece
 shown_piece s e b = if shows s e b then Some (piece_at s b) else None
 

@@ -1,4 +1,4 @@
--- How a stream is cut into pieces, where not all of its octets are packets.
+-- How a stream is cut into pieces, if not all of its octets are packets.
 use Rattle.std.specs.Prelude.{◌≡◌, ◌≢◌, ℕ, ◌+◌, ◌-◌, ◌^◌, ◌<◌, ◌==◌, ◌&&◌, ◌||◌, not, ◌/◌, ◌%◌, min, nat_lt, nat_le, Bool, true, false, if◌then◌else◌, List, [], ◌∷◌, length, take, drop, slice_index, Result, Ok, Err, ⊤}
 use Rattle.lpt_packet.specs.declared.fault.PacketFault.{PacketFault}
 use Rattle.lpt_packet.specs.declared.fault.PacketFault.TheVariants.{Short, Version, Length, Segmented, NoSecondary, Checksum}
@@ -20,7 +20,7 @@ lookahead = 131084
 abbrev pub most_kept : ℕ
 most_kept = 196619
 
--- the octets of the packet at the front, as its header says, or all where fewer have come
+-- the octets of the packet at the front, as its header says, or all if fewer have come
 abbrev pub frame : List ℕ → List ℕ
 frame b = take (7 + word_at b 4) b
 
@@ -125,9 +125,9 @@ may_begin b = first_fits b && flags_fit b && size_fits b
 abbrev pub is_open : List ℕ → Bool
 is_open b = may_begin b && not (is_framed b)
 
--- whether what is at the front depends on octets that may still come. Where as many have come as
+-- whether what is at the front depends on octets that may still come. If as many have come as
 -- its header says, and are no packet, in step, so does it until it is known if a packet stands
--- behind. Where fewer have come, it does in step, and elsewhere if a packet may begin
+-- behind. If fewer have come, it does in step, and elsewhere if a packet may begin
 abbrev pub waits : (in_step : Bool) → List ℕ → Bool
 waits s b =
     if is_framed b then s && not (begins s b) && is_open (behind b) else s || may_begin b
@@ -162,7 +162,7 @@ piece_at s b = piece_by Sealed s b
 abbrev pub IsSealed : PieceKind → List ℕ → Type 0
 IsSealed k b = k ≡ Whole → verdict b ≢ Err Checksum
 
--- nor where a cut looks at checksums
+-- nor if a cut looks at checksums
 abbrev pub IsSealedBy : Cut → PieceKind → List ℕ → Type 0
 IsSealedBy Sealed k b = IsSealed k b
 IsSealedBy Framed k b = ⊤

@@ -26,7 +26,7 @@ IsUnfinished b = length b < octets_wanted b
 abbrev pub cut_at : ℕ → List ℕ → List ℕ × List ℕ
 cut_at n b = (take n b, drop n b)
 
--- the packet at the front and what comes behind it, where it has come whole
+-- the packet at the front and what comes behind it, if it has come whole
 unfoldable pub front_of : List ℕ → Option (List ℕ × List ℕ)
 front_of b = if nat_lt (length b) (octets_wanted b) then None else Some (cut_at (7 + word_at b 4) b)
 
@@ -73,7 +73,7 @@ AreInStep (b ∷ bs) = IsInStep b × AreInStep bs
 
 -- ---- damage
 
--- as many octets as their header says, and no packet: a reader finds a fault, and where that is of
+-- as many octets as their header says, and no packet: a reader finds a fault, and if that is of
 -- the flags alone, the checksum is wrong
 pub record IsDamaged (b : List ℕ) : Type 0 where
   pub framed : IsFramed b

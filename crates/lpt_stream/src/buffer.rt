@@ -114,7 +114,7 @@ impl PacketBuffer {
         ensures finds { FindsPassing result self.old self.new (P.remaining source.old)
             (P.remaining source.new) (P.failed source.old) (P.failed source.new) }
 
-        // What was written stays, and where something was read, all of it was passed on before.
+        // What was written stays, and if something was read, all of it was passed on before.
         ensures same { Keeps (K.contents out.old) (K.contents out.new) }
         ensures passed { result ≢ Err StreamFault.Write →
             (source.new ≡ source.old) ⊎ (K.flushed out.new ≡ K.contents out.new) }
@@ -140,7 +140,7 @@ impl PacketBuffer {
     }
 
     // The piece in front, as soon as nothing that may come behind the octets that are held can
-    // change it. Where it is judged already that no packet is there, that isn't looked at again.
+    // change it. If it is judged already that no packet is there, that isn't looked at again.
     fn piece_settled(&self, is_judged: bool) -> Option<Found>
         requires { is_judged ≡ true
             → begins_by (cut_of self.now) (is_in_step self.now)
@@ -211,7 +211,7 @@ impl PacketBuffer {
         whole_length(self.octets_held()).is_some()
     }
 
-    // Reads some octets behind those that are held, or the stream's end, where a sink has passed on
+    // Reads some octets behind those that are held, or the stream's end, once a sink has passed on
     // all that was written to it.
     fn fill_passing<P: Peer, K: Sink>(&mut self, peer: &mut P, out: &K) -> Result<(), StreamFault>
         requires more { is_ended self.old ≡ false }

@@ -9,8 +9,8 @@ ghost use Rattle.lpt_stream.specs.Streams.{length_at, front_of, cut_at, IsFramed
 
 use lpt_packet::PRIMARY_HEADER;
 
-/// How many octets the packet at the front has, 7 to 65,542, as its header says. None if the
-/// header hasn't come whole: fewer than 6 octets. What the header says else isn't looked at.
+/// How many octets the packet at the front has, 7 to 65,542, as its header says. None if the header
+/// hasn't come whole: fewer than 6 octets. What else the header says isn't looked at.
 pub fn packet_length(bytes: &[u8]) -> Option<usize>
     ensures value { result ≡ length_at bytes.now }
     ensures least { IfSome result (λ n. 7 ≤ n) }

@@ -30,7 +30,7 @@ pub trait Taker<K: Sink, W>: Drop {
     // of what is lent to it.
     ghost takes: { (from : ℕ) → (first now : Self) → (old new : W) → List Piece → Type 0 };
 
-    // What has become of what is lent to it, where it failed at the last of these pieces.
+    // What has become of what is lent to it, if it failed at the last of these pieces.
     ghost leaves: { (from : ℕ) → (first : Self) → (old new : W) → List Piece → Type 0 };
 
     // What is written of pieces as they come.
@@ -119,7 +119,7 @@ pub fn take_pieces<P: Peer, K: Sink, W, T: Taker<K, W>>(
         ⊎ T.leaves from first lent.old lent.new pieces)
         × AppendsPart (K.contents out.old) (K.contents out.new) (T.writes from first pieces))) }
 
-    // Where a read fails, each piece was taken and written that what was read before it shows.
+    // If a read fails, each piece was taken and written that what was read before it shows.
     ensures settled { result ≡ Err StreamFault.Read
         → TakenAll (T.cut first) (P.remaining source.old) (P.remaining source.new) (λ pieces.
         HasTaken (T.takes from first) lent.old lent.new pieces

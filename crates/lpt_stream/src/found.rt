@@ -20,7 +20,7 @@ pub struct Found {
     pub len: usize,
 }
 
-// How many octets the packet at the front has, where one has come whole.
+// How many octets the packet at the front has, if one has come whole.
 pub(crate) fn packet_in_front(cut: Cut, bytes: &[u8], in_step: bool) -> Option<usize>
     ensures some { IfSome result (λ n. (begins_by cut in_step bytes.now ≡ true)
         × (n ≡ 7 + word_at bytes.now 4)
@@ -106,7 +106,7 @@ pub fn ends_in_checksum(octets: &[u8]) -> bool
     crc16(&octets[..end]) == u16::from_be_bytes([octets[end], octets[end + 1]])
 }
 
-// The same, where it isn't judged already that none is there.
+// The same, if it isn't judged already that none is there.
 pub(crate) fn packet_unless(is_judged: bool, cut: Cut, bytes: &[u8], in_step: bool) -> Option<usize>
     requires { is_judged ≡ true → begins_by cut in_step bytes.now ≡ false }
     ensures some { IfSome result (λ n. (begins_by cut in_step bytes.now ≡ true)
@@ -121,7 +121,7 @@ pub(crate) fn packet_unless(is_judged: bool, cut: Cut, bytes: &[u8], in_step: bo
     packet_in_front(cut, bytes, in_step)
 }
 
-// How many octets the packet has that the header in front announces, where they have all come. If
+// How many octets the packet has that the header in front announces, if they have all come. If
 // their checksum isn't 0, no packet begins there, behind octets that are none.
 pub(crate) fn length_announced(bytes: &[u8]) -> Option<usize>
     ensures within { IfSome result (λ n. n ≤ length bytes.now) }

@@ -30,7 +30,7 @@ pub fn piece_in_front(octets: &[u8], in_step: bool, is_end: bool) -> Option<Foun
     piece_unless(false, octets, in_step, is_end)
 }
 
-// The same, where it isn't judged already that no packet is there.
+// The same, if it isn't judged already that no packet is there.
 pub(crate) fn piece_unless(
     is_judged: bool,
     octets: &[u8],

@@ -6,9 +6,9 @@ ghost use Rattle.lpt_text.specs.Streams.{read_failed};
 
 use lpt_text::{Sink, Source};
 
-/// If octets come from that somebody sends who waits for what is written to a sink.
+/// Where octets come from that are sent by someone who waits for what is written to a sink.
 pub trait Peer {
-    // The octets that reads will give from here on, where they are known.
+    // The octets that reads will give from here on, if they are known.
     ghost remaining: { Self → Option (List ℕ) };
 
     // Whether a read has failed.

@@ -21,7 +21,7 @@ pub trait PieceTaker<W>: Drop {
     // What it has become by these pieces, and what has become of what is lent to it.
     ghost takes: { (first now : Self) → (old new : W) → List Piece → Type 0 };
 
-    // What has become of what is lent to it, where it failed at the last of these pieces.
+    // What has become of what is lent to it, if it failed at the last of these pieces.
     ghost leaves: { (first : Self) → (old new : W) → List Piece → Type 0 };
 
     // The faults that it may end with, none of them a read's.
@@ -74,7 +74,7 @@ pub fn each_piece<S: Source, W, T: PieceTaker<W>>(
         (S.remaining source.new) (λ pieces. HasTaken (T.takes first) lent.old lent.new pieces
         ⊎ T.leaves first lent.old lent.new pieces)) }
 
-    // Where a read fails, each piece was taken that what was read before it shows.
+    // If a read fails, each piece was taken that what was read before it shows.
     ensures settled { result ≡ Err StreamFault.Read → TakenAll Sealed (S.remaining source.old)
         (S.remaining source.new) (HasTaken (T.takes first) lent.old lent.new)
         ⊎ IsEndless (S.remaining source.old) (S.remaining source.new) }
@@ -88,7 +88,7 @@ pub fn each_piece<S: Source, W, T: PieceTaker<W>>(
     let mut out = Nowhere { failed: false };
     match take_pieces(alloc, 0, source, Silent { taker: first }, &mut out, lent) {
         Ok(last) => Ok(last.taker),
-        // None ever fails so.
+        // No write to it ever fails.
         Err(StreamFault::Write) if out.failed => Err(StreamFault::Memory),
         Err(fault) => Err(fault),
     }

@@ -123,7 +123,7 @@ impl System {
         }
     }
 
-    // Notes a message that was released, where one was.
+    // Notes a message that was released, if one was.
     fn note_release(
         &mut self,
         place: u64,

@@ -251,7 +251,7 @@ impl System {
         }
     }
 
-    // Puts a node's report on the link, where it made one, and answers.
+    // Puts a node's report on the link, if it made one, and answers.
     pub(crate) fn report(&mut self, answer: Answer, packet: Option<Octets>) -> Reply
         requires { 0 < self.old.link.spare }
         ensures state { state_of self.new ≡ record (state_of self.old) { link = put_report self.old.link.at packet } }

@@ -40,6 +40,6 @@ abbrev pub soonest : ℕ → ℕ → List (Name × TableEntry) → Option (Name 
 soonest timeout now [] = None
 soonest timeout now (e ∷ es) = sooner (if_overdue timeout now e) (soonest timeout now es)
 
--- the name of the reception that is due, where one is overdue
+-- the name of the reception that is due, if one is overdue
 abbrev pub due_of : TableState → ℕ → Option Name
 due_of t now = option_map (λ b. b.0) (soonest t.timeout now (map.entries t.entries))

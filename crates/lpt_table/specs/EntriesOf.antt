@@ -24,7 +24,7 @@ pub record IsEntry (at : Option TableEntry) (name : Name) (p : ℕ) (e : Entry) 
   pub named : e.name ≡ name
   pub its : IsIts p e
 
--- the parts of a reception, where there is one
+-- the parts of a reception, if there is one
 abbrev pub parts_in : Option Received → Parts
 parts_in None = no_parts
 parts_in (Some f) = f.parts

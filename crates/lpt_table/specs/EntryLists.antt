@@ -33,7 +33,7 @@ abbrev pub IsAway : Option (Name × ℕ) → Entries → Type 0
 IsAway None m = Unit {0}
 IsAway (Some o) m = maps.get m o.0 ≡ None
 
--- the last tick of a reception that has made this of a part: now where it has the part, and others are
+-- the last tick of a reception that has made this of a part: now if it has the part, and others are
 -- missing
 abbrev pub last_after : Took → ℕ → ℕ → ℕ
 last_after took.Kept last now = now

@@ -41,7 +41,7 @@ pub record TakesOut (old new : TableState) (name : Name) : Type 0 where
   pub now : new
       ≡ record old { entries = map.remove old.entries name; out = Some (name, entry.last) }
 
--- the last tick of the reception that is out, and 0 where none is, which no call reads
+-- the last tick of the reception that is out, and 0 if none is, which no call reads
 abbrev pub last_out : Option (Name × ℕ) → ℕ
 last_out None = 0
 last_out (Some o) = o.1
@@ -67,13 +67,13 @@ taken_out t name =
       out = option_map (λ e. (name, e.last)) (map.get t.entries name);
     }
 
--- what an offer of a part that isn't the next one comes to: its reception is broken off, where one is
+-- what an offer of a part that isn't the next one comes to: its reception is broken off, if one is
 -- open
 abbrev pub at_gap : TableState → Name → OfferKind × TableState
 at_gap t name =
     if is_open t name then (Conflict reason.Discontinuity, taken_out t name) else (Gap, t)
 
--- what an offer of part n of a transaction comes to, and what it makes of the table, where there is
+-- what an offer of part n of a transaction comes to, and what it makes of the table, if there is
 -- memory for the part
 unfoldable pub part_offered : TableState → Name → ℕ → KeptPart → ℕ → OfferKind × TableState
 part_offered t name n x now =

@@ -10,8 +10,8 @@ use Rattle.lpt_table.specs.Offering as kind
 use Rattle.lpt_table.specs.Tables.{TableState}
 use Rattle.lpt_table.specs.Offering.{OfferKind, is_full, is_open, parts_at, received_at, with_entry, TakesOut}
 
--- what an offer of part n of a transaction answers, and what it makes of the table: no room where
--- the table is full, a gap where none is open and the part isn't the next one in the table's mode,
+-- what an offer of part n of a transaction answers, and what it makes of the table: no room if
+-- the table is full, a gap if none is open and the part isn't the next one in the table's mode,
 -- else as the reception answers; a part that is kept, or was kept, sets the last tick, and a reception
 -- that is whole or broken off is taken out
 abbrev pub Offers : TableState → Name → ℕ → KeptPart → ℕ → Offer → TableState → Type 0

@@ -1,4 +1,4 @@
--- The places of open receptions: a list in the order of last ticks, and of names where those are
+-- The places of open receptions: a list in the order of last ticks, and of names if those are
 -- equal.
 use Rattle.std.specs.Prelude.{◌≡◌, ℕ, suc, ◌+◌, nat_le, if◌then◌else◌, List, [], ◌∷◌, map, Option, Some, None}
 use Rattle.std.specs.List.{insert, remove}
@@ -42,7 +42,7 @@ abbrev pub AreApart : {K X : Type 0} → (K → K → Ordering) → List (K × X
 AreApart R [] = Unit {0}
 AreApart R (e ∷ es) = (find R e.0 es ≡ None) × AreApart R es
 
--- the name at the first place, where the reception there is overdue
+-- the name at the first place, if the reception there is overdue
 abbrev pub first_overdue : ℕ → ℕ → List DuePlace → Option Name
 first_overdue timeout now [] = None
 first_overdue timeout now (x ∷ xs) = if nat_le (x.last + timeout) now then Some x.name else None

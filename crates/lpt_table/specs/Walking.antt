@@ -7,16 +7,16 @@ use Rattle.lpt_reception.specs.Received.{Received}
 use Rattle.lpt_table.specs.declared.places.DuePlace.{DuePlace}
 use Rattle.lpt_table.specs.Tables.{TableEntry, TableState}
 
--- what is kept under a name, where a reception of it is open
+-- what is kept under a name, if a reception of it is open
 abbrev pub reception_at : TableState → Name → Option Received
 reception_at t name =
     option_map (λ e. record { id = name.id; p = t.p; parts = e.parts }) (map.get t.entries name)
 
--- the tick from which on the reception of a name is overdue, where one is open
+-- the tick from which on the reception of a name is overdue, if one is open
 abbrev pub due_at : TableState → Name → Option ℕ
 due_at t name = option_map (λ e. e.last + t.timeout) (map.get t.entries name)
 
--- the lesser of a tick and another, where there is one
+-- the lesser of a tick and another, if there is one
 abbrev pub lesser : ℕ → Option ℕ → ℕ
 lesser a None = a
 lesser a (Some b) = if nat_lt b a then b else a
@@ -26,18 +26,18 @@ abbrev pub least_last : List (Name × TableEntry) → Option ℕ
 least_last [] = None
 least_last (e ∷ es) = Some (lesser e.1.last (least_last es))
 
--- the tick from which on some reception is overdue, where one is open
+-- the tick from which on some reception is overdue, if one is open
 abbrev pub next_due : TableState → Option ℕ
 next_due t = option_map (λ last. last + t.timeout) (least_last (map.entries t.entries))
 
--- whether a tick, where there is one, has come
+-- whether a tick, if there is one, has come
 abbrev pub has_come : Option ℕ → (now : ℕ) → Bool
 has_come None now = false
 has_come (Some at) now = nat_le at now
 
 -- ---- names in order
 
--- whether a name stands behind this one, where there is one
+-- whether a name stands behind this one, if there is one
 abbrev pub is_behind : Option Name → Name → Bool
 is_behind None name = true
 is_behind (Some after) name = name_before after name
@@ -60,7 +60,7 @@ abbrev pub is_nearer : Name → Option Name → Bool
 is_nearer name None = true
 is_nearer name (Some found) = name_before name found
 
--- a name where it stands behind another and before the one that was found, else that one
+-- a name if it stands behind another and before the one that was found, else that one
 abbrev pub nearer : (after : Option Name) → Name → (found : Option Name) → Option Name
 nearer after name found = if is_behind after name && is_nearer name found then Some name else found
 

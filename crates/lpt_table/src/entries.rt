@@ -31,7 +31,7 @@ pub(crate) struct Entry {
 #[derive(Drop)]
 pub(crate) struct EntryList {
     fillings: Slab<Filling>,
-    // In the order of last ticks, and of names where those are equal.
+    // In the order of last ticks, and of names if those are equal.
     places: Vec<DuePlace>,
     limit: u32,
     p: u32,

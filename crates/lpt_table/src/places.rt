@@ -1,4 +1,4 @@
-//! If the open receptions are kept, in the order in which they would be due.
+//! Where the open receptions are kept, in the order in which they would be due.
 
 ghost use Rattle.std.specs.Prelude.{◌≡◌, ◌<◌, ◌≤◌, All, T, length, map as mapped, slice_index_or, vec_capacity};
 ghost use Rattle.std.specs.FinMap as map;
@@ -10,7 +10,7 @@ ghost use Rattle.lpt_table.specs.Walking.{first_last, is_behind, is_nearer, near
 use lpt_packet::Name;
 use std::cmp::Ordering;
 
-/// If an open reception is kept: the tick at which it last took a part, its name, and its key.
+/// Where an open reception is kept: the tick at which it last took a part, its name, and its key.
 #[derive(Clone, Copy)]
 pub(crate) struct DuePlace {
     pub(crate) last: u32,
@@ -86,7 +86,7 @@ pub(crate) fn set_back(places: &mut [DuePlace], ticks: u32)
     }
 }
 
-// The name at the first place, where the reception there is overdue.
+// The name at the first place, if the reception there is overdue.
 pub(crate) fn first_due(places: &[DuePlace], timeout: u32, now: u32) -> Option<Name>
     ensures { result ≡ first_overdue timeout now places.now }
 {
@@ -102,7 +102,7 @@ pub(crate) fn first_due(places: &[DuePlace], timeout: u32, now: u32) -> Option<N
     }
 }
 
-// The least name behind another, where that is given.
+// The least name behind another, if that is given.
 pub(crate) fn nearest(places: &[DuePlace], after: Option<Name>) -> Option<Name>
     ensures { result ≡ nearest after places.now }
 {
@@ -113,7 +113,7 @@ pub(crate) fn nearest(places: &[DuePlace], after: Option<Name>) -> Option<Name>
     found
 }
 
-// A name where it stands behind another and before the one that was found, else that one.
+// A name, if it stands behind another and before the one that was found; otherwise that one.
 fn nearer(after: Option<Name>, name: Name, found: Option<Name>) -> Option<Name>
     ensures { result ≡ nearer after name found }
 {
@@ -124,7 +124,7 @@ fn nearer(after: Option<Name>, name: Name, found: Option<Name>) -> Option<Name>
     }
 }
 
-// Whether a name stands behind this one, where there is one.
+// Whether a name stands behind this one, if there is one.
 fn is_behind(after: Option<Name>, name: Name) -> bool
     ensures { result ≡ is_behind after name }
 {

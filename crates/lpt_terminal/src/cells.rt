@@ -6,7 +6,7 @@ use std::alloc::{AllocError, Global};
 /// The cells of a row, and what stands behind them.
 #[derive(Drop)]
 pub(crate) struct Cells<'t> {
-    /// The value in each column; an empty one where the line has none.
+    /// The value in each column; an empty one if the line has none.
     pub(crate) values: [&'t str; COUNT],
     /// The other words, in their order: first those of what the packet carries.
     pub(crate) others: Vec<&'t str>,

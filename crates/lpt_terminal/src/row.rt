@@ -40,7 +40,7 @@ impl Row {
         Ok(row)
     }
 
-    // Adds the values in the columns. The place of the words behind them: where there is no part,
+    // Adds the values in the columns. The place of the words behind them: if there is no part,
     // these stand in the columns of parts.
     fn add_cells(&mut self, cells: &Cells<'_>) -> Result<usize, AllocError> {
         let is_part = !cells.values[PART].is_empty();
@@ -64,7 +64,7 @@ impl Row {
         Ok(behind)
     }
 
-    // Adds a word at this place, or behind a space where the row is longer.
+    // Adds a word at this place, or behind a space if the row is longer.
     fn add_word(&mut self, place: usize, word: &str, look: Option<Look>) -> Result<(), AllocError> {
         if !self.text.is_empty() {
             self.text.push(b' ')?;

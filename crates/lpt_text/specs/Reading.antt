@@ -53,7 +53,7 @@ IsCutFront old new failed P =
     ⊎ ((length text + length cut ≡ longest_text) × (0 < length over)))
     × P text
 
--- The same where so much of a last line is among them as shows that it is too long.
+-- The same if so much of a last line is among them as shows that it is too long.
 abbrev pub IsCutShort : Option (List ℕ) → Option (List ℕ) → Bool → (List ℕ → Type 0) → Type 0
 IsCutShort old new failed P =
     (text : List ℕ) × (cut : List ℕ) × (over : List ℕ) × Consumes old new (text ++ (cut ++ over))

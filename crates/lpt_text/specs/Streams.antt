@@ -32,7 +32,7 @@ failed_write Read before = before
 failed_write Write before = true
 failed_write Memory before = before
 
--- how work leaves a writer: it has failed where a fault of a write ended the work, and by no other
+-- how work leaves a writer: it has failed if a fault of a write ended the work, and by no other
 -- end
 abbrev pub WriteEnds : {A : Type 0} → Result A StreamFault → (had failed : Bool) → Type 0
 WriteEnds (Ok done) had failed = failed ≡ had

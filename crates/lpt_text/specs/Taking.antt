@@ -42,7 +42,7 @@ unless_last Done more = more
 unless_last Failed more = more
 unless_last Over more = []
 
--- these octets may be behind others in a line of which those were taken: none, or any where the
+-- these octets may be behind others in a line of which those were taken: none, or any if the
 -- line is too long
 abbrev pub IsBehind : List ℕ → List ℕ → Type 0
 IsBehind front rest = (rest ≡ []) ⊎ (longest_line < length front)

@@ -12,7 +12,7 @@ abbrev pub IsPiece : (place : Option ℕ) → (held line : List ℕ) → (len : 
 IsPiece None held line len = (line ≡ held) × (len ≡ length held)
 IsPiece (Some n) held line len = (line ≡ ended_line (take n held)) × (len ≡ n + 1)
 
--- the line and those behind it, or these alone where it was taken by its front
+-- the line and those behind it, or these alone if it was taken by its front
 abbrev pub piece_lines : (is_taken : Bool) → List ℕ → List (List ℕ) → List (List ℕ)
 piece_lines true line more = more
 piece_lines false line more = line ∷ more

@@ -10,7 +10,7 @@ use std::io::{BufWriter, Write};
 
 /// A writer of std that reports what it has passed on of what was written.
 pub trait Flushed: Write {
-    // The octets that it has passed on, where they are known: the others are kept back.
+    // The octets that it has passed on, if they are known: the others are kept back.
     ghost flushed: { Self → Option (List ℕ) } = { λ _. None };
 
     /// Passes on what was kept back.

@@ -74,7 +74,7 @@ impl LineBuffer {
         ensures finds { FindsLine result self.old self.new (S.remaining source.old)
             (S.remaining source.new) (S.failed source.old) (S.failed source.new) }
 
-        // What was written stays, and where something was read, all of it was passed on before.
+        // What was written stays, and if something was read, all of it was passed on before.
         ensures same { Keeps (K.contents out.old) (K.contents out.new) }
         ensures passed { result ≢ Err StreamFault.Write →
             (source.new ≡ source.old) ⊎ (K.flushed out.new ≡ K.contents out.new) }

@@ -12,7 +12,7 @@ use std::alloc::Global;
 /// How many octets are asked for at a time.
 pub(crate) const CHUNK: usize = 16_384;
 
-/// If the reading of a text ended.
+/// Where the reading of a text ended.
 #[derive(Clone, Copy, PartialEq, Eq)]
 pub enum End {
     /// At the text's end.
@@ -31,7 +31,7 @@ pub fn read_text<S: Source>(alloc: Global, reader: &mut S) -> Result<(Vec<u8>, E
     ensures ok { IfOk result (λ p. ReadTo p.1 p.0.items (S.remaining reader.old)
         (S.remaining reader.new) (S.failed reader.old) (S.failed reader.new)) }
 
-    // Where memory runs out, some octets are consumed and lost, but no read has failed.
+    // If memory runs out, some octets are consumed and lost, but no read has failed.
     ensures err { IfErr result (λ e. (e ≡ StreamFault.Memory)
         × (S.failed reader.new ≡ S.failed reader.old)
         × ((read : List ℕ) × Consumes (S.remaining reader.old) (S.remaining reader.new) read)) }

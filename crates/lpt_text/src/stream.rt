@@ -9,9 +9,9 @@ use crate::fault::StreamFault;
 use crate::flushing::Flushed;
 use std::io;
 
-/// If a text is read from.
+/// Where a text is read from.
 pub trait Source {
-    // The octets that reads will give from here on, where they are known.
+    // The octets that reads will give from here on, if they are known.
     ghost remaining: { Self → Option (List ℕ) };
 
     // Whether a read has failed.
@@ -29,12 +29,12 @@ pub trait Source {
         ensures cause { failed self.new ≡ read_failed result (failed self.old) };
 }
 
-/// If a text is written to.
+/// Where a text is written to.
 pub trait Sink {
-    // The octets that were written, where they are known.
+    // The octets that were written, if they are known.
     ghost contents: { Self → Option (List ℕ) };
 
-    // The octets that were passed on, where they are known: the others are kept back.
+    // The octets that were passed on, if they are known: the others are kept back.
     ghost flushed: { Self → Option (List ℕ) };
 
     // Whether a write has failed or taken nothing.

@@ -18,7 +18,7 @@ use std::alloc::Global;
 pub enum Taken {
     /// It was taken, and so is the next one.
     Done,
-    /// The same, and it counts as one that failed.
+    /// It was taken, and counts as one that failed; the next one is taken too.
     Failed,
     /// It was the last one that is taken.
     Over,

@@ -44,7 +44,7 @@ pub fn ended_line(piece: &[u8]) -> &[u8]
     }
 }
 
-// The line without the one carriage return at its end, where it has one.
+// The line without the one carriage return at its end, if it has one.
 fn without_return(line: &[u8]) -> &[u8]
     ensures { result.now ≡ strip_carriage_return line.now }
 {

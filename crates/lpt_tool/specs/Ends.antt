@@ -68,8 +68,8 @@ ThreadsEnds turns w (Err (tool.Threads fault)) old new before after read_failed 
     (λ text. ((script_ran true w text).bad ≡ None)
     × Appends before after (script_ran true w text).text)
 
--- how the threads and what is printed after them end, behind lines of which so many were refused: where the
--- threads fail, nothing was written
+-- how the threads and what is printed after them end, behind lines of which so many were refused:
+-- if the threads fail, nothing was written
 abbrev pub GoesOn : Turns → Left → (refused : ℕ) → Result ThreadsEnd ToolFault → (before after : Option (List ℕ)) → (write_failed : Bool) → Type 0
 GoesOn turns left refused (Ok end) before after write_failed =
     (end.refused ≡ refused) × IsShownBehind [] turns left end.full.items before after

@@ -20,7 +20,7 @@ use std::alloc::Global;
 
 /// Runs a script from a reader, as `lpt_script::run_script` does.
 ///
-/// Errors: those of that one.
+/// Errors: those of that function.
 pub fn run_script<S: Source, K: Sink>(
     alloc: Global,
     config: Config,
@@ -46,7 +46,7 @@ pub fn run_script<S: Source, K: Sink>(
 
 /// Writes what octets are as a packet, as `lpt_script::decode` does.
 ///
-/// Errors: those of that one.
+/// Errors: those of that function.
 pub fn decode<K: Sink>(alloc: Global, octets: &[u8], p: u32, out: &mut K) -> Result<bool, ToolFault>
     requires { IsPartSize p }
     ensures ends { (done : Result Bool StreamFault) × (result ≡ of_streams done)

@@ -31,11 +31,11 @@ pub record IsReport (subtype : ℕ) (body : List ℕ) (r : Report) : Type 0 wher
   pub code_fits : IfSome r.code (λ c. c < 2 ^ 16)
   pub spelled : body ≡ be r.request.value 4 ++ code_text r.code
 
--- the report with this failure code, where it has one, that stands at a body's places
+-- the report with this failure code, if it has one, that stands at a body's places
 abbrev pub report_at : List ℕ → Option ℕ → Report
 report_at body code = record { request = record { value = long_at body 0 }; code = code }
 
--- the report that a body is, of this message subtype, where it is one
+-- the report that a body is, of this message subtype, if it is one
 unfoldable pub report_in : (subtype : ℕ) → List ℕ → Option Report
 report_in subtype body =
     if is_success subtype && length body == 4 then Some (report_at body None)
@@ -43,7 +43,7 @@ report_in subtype body =
     Some (report_at body (Some (word_at body 4)))
     else None
 
--- the report is read as one of this request; its failure code, where it has one, is this
+-- the report is read as one of this request; its failure code, if it has one, is this
 pub record Names (request : RequestId) (code : Option ℕ) (e : EncodedReport) : Type 0 where
   pub read : Report
   pub is_read : IsReport e.subtype e.body read

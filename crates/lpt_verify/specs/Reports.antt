@@ -19,7 +19,7 @@ success request subtype = record { subtype = subtype; body = be request 4 }
 abbrev pub failure : ℕ → ℕ → ℕ → EncodedReport
 failure request subtype code = record { subtype = subtype; body = be request 4 ++ be code 2 }
 
--- a report of success, where the flag asks for it
+-- a report of success, if the flag asks for it
 abbrev pub success_if : Bool → ℕ → ℕ → List EncodedReport
 success_if asked request subtype = if asked then success request subtype ∷ [] else []
 

@@ -49,7 +49,7 @@ pub fn reports(
     ensures after { IfOk result (λ r. r.after.items
         ≡ reports_after request.value flags (option_map number_of code)) }
 
-    // Memory runs out only where there is a report.
+    // Memory runs out only if there is a report.
     ensures memory { OnErr result
         (all_reports request.value flags (option_map number_of code) ≢ []) }
 {
@@ -105,7 +105,7 @@ fn failure_reports(
     })
 }
 
-// Whether it is the acceptance that failed; else it is the start of execution.
+// Whether it is the acceptance that failed; otherwise it is the start of execution.
 fn is_of_acceptance(code: FailureCode) -> bool
     ensures { IsTrue result ↔ (number_of code ≤ 2) }
 {

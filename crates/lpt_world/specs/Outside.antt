@@ -22,7 +22,7 @@ octets_in_hand w l = option_and_then (octets_of w) (hand (history w) l)
 abbrev pub IsOfHand : Shown → Lane → ParsedView → Type 0
 IsOfHand w l o = IsReadOf w.config (octets_in_hand w l) l o
 
--- the fault is the reason for which the event is refused; where there is none, it says whether what
+-- the fault is the reason for which the event is refused; if there is none, it says whether what
 -- was read outside is of what the lane or the worker has
 abbrev pub ReadRefusedBy : Type 0 → Option StepFault → StepFault → Type 0
 ReadRefusedBy IsTheirs (Some first) fault = fault ≡ first

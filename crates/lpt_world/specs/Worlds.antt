@@ -75,7 +75,7 @@ state_shown ClosedSender = Closed
 abbrev pub refusal_at : Shown → ℕ → Event → Option StepFault
 refusal_at w seat e = if nat_lt 10 seat then Some NoSuchSeat else refusal w.config (history w) e
 
--- the fault is the first reason, or out of memory where there is none
+-- the fault is the first reason, or out of memory if there is none
 abbrev pub RefusedBy : Option StepFault → StepFault → Type 0
 RefusedBy (Some first) fault = fault ≡ first
 RefusedBy None fault = fault ≡ Memory

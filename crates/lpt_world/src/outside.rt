@@ -45,7 +45,7 @@ impl World {
         }
     }
 
-    // The same, with the fault alone where it is refused.
+    // The same, with the fault alone if it is refused.
     fn try_take(&mut self, seat: u8, lane: Lane, n: u64) -> Result<(Reply, Octets), StepFault>
         ensures enabled { IfOk result (λ r. refusal_at self.old seat (Event.Take lane n) ≡ None) }
         ensures reply { IfOk result (λ r. r.0 ≡ reply self.old.config self.old.first (history self.old) (Event.Take lane n)) }
@@ -160,7 +160,7 @@ impl World {
         }
     }
 
-    // The same, with the fault alone where it is refused.
+    // The same, with the fault alone if it is refused.
     fn try_claim(&mut self, seat: u8, worker: Worker) -> Result<(Reply, Ticket), StepFault>
         ensures enabled { IfOk result (λ r. refusal_at self.old seat (Event.Claim worker) ≡ None) }
         ensures reply { IfOk result (λ r. r.0 ≡ reply self.old.config self.old.first (history self.old) (Event.Claim worker)) }

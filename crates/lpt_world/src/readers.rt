@@ -26,9 +26,10 @@ impl World {
     /// those before it, and has the reply that it gives then. Each large message released under a
     /// name is byte for byte the one last opened under it by the other node, at most once per
     /// opening. The memories are their first content, changed by the executed requests in order of
-    /// release, each of which was sent by ground, released by the spacecraft and executed once. What
-    /// expired or was broken off is never released, what came whole else is, and what was released
-    /// is never heard again. No request is executed in another boot than that of its release.
+    /// release, each of which was sent by ground, released by the spacecraft and executed once.
+    /// What expired or was broken off is never released, all else that came whole is, and what was
+    /// released is never heard again. No request is executed in another boot than that of its
+    /// release.
     pub fn journal(&self) -> &[Entry]
         ensures shown { result.now ≡ self.now.journal }
         ensures told { IsTold self.now.config self.now.first self.now.journal }

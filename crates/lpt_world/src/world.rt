@@ -69,11 +69,11 @@ impl World {
 
     /// Does one event, whole, or refuses it.
     ///
-    /// Errors: `NoSuchSeat` for a seat above 10; else the event's first reason; out of memory is
-    /// last. The event comes back, and nothing has changed.
+    /// Errors: `NoSuchSeat` for a seat above 10; otherwise the event's first reason; out of memory
+    /// is last. The event comes back, and nothing has changed.
     #[inline(always)]
     pub fn step(&mut self, seat: u8, event: Event) -> Result<Reply, Refused>
-        // Accepted exactly where it can happen, out of memory aside; the reply is the journal's.
+        // Accepted exactly if it can happen, out of memory aside; the reply is the journal's.
         ensures enabled { IfOk result (λ r. refusal_at self.old seat event ≡ None) }
         ensures reply { IfOk result (λ r. r ≡ reply self.old.config self.old.first (history self.old) event) }
         ensures entered { IfOk result (λ r. self.new ≡ with_entry self.old seat event r) }
@@ -150,7 +150,7 @@ impl World {
         }
     }
 
-    // Steps seat 0 through a copy of the event, and gives the fault where it is refused.
+    // Steps seat 0 through a copy of the event, and gives the fault if it is refused.
     fn step_copy(&mut self, event: &Event) -> Option<StepFault>
         ensures accepted { result ≡ None → refusal_at self.old 0 event.now ≡ None }
         ensures entered { result ≡ None → self.new ≡ with_entry self.old 0 event.now (reply self.old.config self.old.first (history self.old) event.now) }

@@ -212,7 +212,7 @@ fn hears(
     Ok(accepted.outcome == outcome && given && is_kept(station, outcome))
 }
 
-// Whether a reception is open where its part is kept, and isn't where it has ended.
+// Whether a reception is open if its part is kept, and isn't if it has ended.
 fn is_kept(station: &Station, outcome: Outcome) -> bool {
     match outcome {
         Outcome::Kept(name, _) | Outcome::Again(name, _) => station.node.is_open_reception(name),
@@ -223,7 +223,7 @@ fn is_kept(station: &Station, outcome: Outcome) -> bool {
     }
 }
 
-// Whether there are octets, and they are these, or there are none where none are wanted.
+// Whether there are octets, and they are these, or there are none if none are wanted.
 fn is(octets: &Option<Octets>, wanted: Option<&[u8]>) -> bool {
     match octets {
         Some(octets) => wanted == Some(octets.as_slice()),
@@ -253,7 +253,7 @@ fn gives_up(station: &mut Station, name: Name, want: Result<&[u8], NodeFault>) -
     }
 }
 
-// Sets the clock back, where it can be.
+// Sets the clock back, if it can be.
 fn sets_back(station: &mut Station, ticks: u32) -> bool {
     if !station.node.can_set_back(ticks) {
         return false;
@@ -270,7 +270,7 @@ fn restarts(station: &mut Station, boot: u64) -> bool {
     station.node.boot() == boot && station.node.jobs() == 0
 }
 
-// Retires a name of the way up where neither its sender nor a reception is open.
+// Retires a name of the way up if neither its sender nor a reception is open.
 fn retires(station: &mut Station, name: Name) -> bool {
     if station.node.sender(name) == State::Open || station.node.is_open_reception(name) {
         return false;

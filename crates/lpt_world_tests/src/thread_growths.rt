@@ -11,7 +11,7 @@ use std::process::Abort;
 use std::sync::Wait;
 use std::thread::Threads;
 
-// Runs threads, and gives whether a growth failed. Where one fails in the run, that is told, never
+// Runs threads, and gives whether a growth failed. If one fails in the run, that is told, never
 // that the logs differ, and the world goes on.
 fn walk<R: Threads + Wait + Sync>(rt: &impl Abort, threads: &R, alloc: Global) -> bool {
     let Some(world) = world_after(alloc, CONFIG, &loads()) else {

@@ -24,7 +24,7 @@ pub(crate) fn walk(rt: &impl Abort, alloc: Global, paths: &[Path]) -> bool {
     failed
 }
 
-// Goes a path in a new world, and gives whether a growth failed. Where a failed growth refuses
+// Goes a path in a new world, and gives whether a growth failed. If a failed growth refuses
 // the world, it is made at the second try. The only error, here and below: a growth of the test's
 // own fails.
 fn goes(rt: &impl Abort, alloc: Global, path: &Path) -> Result<bool, AllocError> {
@@ -113,8 +113,8 @@ fn is_back(world: &World, refused: &Refused, event: Event) -> bool {
     refused.event == event && refused.at == world.journal().len() as u64
 }
 
-// Whether a growth failed, and whether an event is refused as its step says, or accepted at the second
-// try, where so many packets had been put.
+// Whether a growth failed, and whether an event is refused as its step says, or accepted at the
+// second try, once so many packets had been put.
 fn accepts(world: &mut World, refused: Refused, step: &RowStep, packets: u64) -> (bool, bool) {
     let (seat, _, want, _) = *step;
     if refused.fault != StepFault::Memory {
@@ -126,7 +126,7 @@ fn accepts(world: &mut World, refused: Refused, step: &RowStep, packets: u64) ->
     }
 }
 
-// Whether a reply is that of a step, where so many packets had been put.
+// Whether a reply is that of a step, once so many packets had been put.
 fn is_reply(reply: Reply, step: &RowStep, packets: u64) -> bool {
     let (_, _, want, count) = *step;
     want == Ok(reply.answer) && reply.puts == puts_of(packets, count)
