@@ -30,7 +30,7 @@ pub(crate) struct Content {
 }
 
 impl Content {
-    /// The content of a machine without files, with room enough.
+    /// Of a machine without files, with room enough.
     pub(crate) fn new(alloc: Global) -> Content {
         Content {
             alloc,

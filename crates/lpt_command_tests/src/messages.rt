@@ -5,7 +5,6 @@ use crate::worked::{
     BOTH, DUMPED, FIRST, LACKING, LAST_PART, LAYOUT, PARTS, SECOND, TAILORED, TAILORED_PARTS,
 };
 
-<<<<<<< ours
 static JOIN_EACH: [Case; 5] = [
     Case {
         words: "join up --each out --part-size 16 packets",
@@ -54,88 +53,6 @@ static JOIN_EACH: [Case; 5] = [
         ..NOTHING
     },
 ];
-=======
-pub(crate) const CONFIG: Config = Config {
-    apid: 100,
-    source: 1,
-    part_size: 16,
-    timeout: 1,
-    receptions: 8,
-    outgoing: 8,
-    clock: 0,
-    mode: Mode::Any,
-};
-
-/// The voice of a command none of whose streams is a terminal.
-pub(crate) fn voice() -> Voice {
-    let terminals = Terminals {
-        input: false,
-        output: false,
-        errors: false,
-    };
-    Voice::new(terminals, false)
-}
-
-// What `join up` asks for of the file `packets`.
-fn join_words(rt: &impl Abort, alloc: Global, id: Option<u16>) -> JoinWords<'static> {
-    JoinWords {
-        direction: Direction::Up,
-        name: id.map(|id| GivenName { source: None, id }),
-        files: one_path(rt, alloc, "packets"),
-        any: false,
-        first: false,
-        each: None,
-        span: Span {
-            from: None,
-            to: None,
-        },
-    }
-}
-
-// What `join --each` into the folder `out` leaves of a machine that holds this.
-fn check_join_each(rt: &impl Abort, alloc: Global, content: Content, ending: &Ending) {
-    let desk = Desk::new(alloc, content);
-    let words = join_words(rt, alloc, None);
-    let status = join_into_out(&desk, &words);
-    drop(words);
-    check(rt, desk, status, ending);
-}
-
-// The status by which that ends.
-fn join_into_out(desk: &Desk, words: &JoinWords<'_>) -> u8 {
-    let machine = InMemory { desk, input: &[] };
-    let ended = join_each(&machine, voice(), &CONFIG, words, "out");
-    tell_end(&machine, ended) as u8
-}
-
-// What `join --id 7` leaves of a machine that holds this.
-fn check_join_seven(rt: &impl Abort, alloc: Global, content: Content, ending: &Ending) {
-    let desk = Desk::new(alloc, content);
-    let words = join_words(rt, alloc, Some(7));
-    let status = join_to_output(&desk, &words);
-    drop(words);
-    check(rt, desk, status, ending);
-}
-
-// The status by which that ends.
-fn join_to_output(desk: &Desk, words: &JoinWords<'_>) -> u8 {
-    let machine = InMemory { desk, input: &[] };
-    let ended = join(&machine, voice(), &CONFIG, words);
-    tell_end(&machine, ended) as u8
-}
-
-static EACH_IN_ITS_FILE: Ending = Ending {
-    status: 0,
-    paths: "packets\nout/up-1-7.0\nout/up-1-8.0\nout/up-1-7.1\n",
-    files: &[
-        ("out/up-1-7.0", FIRST),
-        ("out/up-1-8.0", SECOND),
-        ("out/up-1-7.1", FIRST),
-    ],
-    output: &[],
-    errors: "",
-};
->>>>>>> theirs
 
 #[test]
 fn each_message_is_in_its_file(rt: HostRuntime) {
