@@ -8,7 +8,7 @@
 ghost use Rattle.lpt_events.specs.Configs.{IsConfig};
 
 use lpt_command_line::{Command, CommandLine, JoinWords, read_words};
-use lpt_end_commands::{ground, pass, spacecraft};
+use lpt_end_commands::{EndMachine, ground, pass, spacecraft};
 use lpt_events::Config;
 use lpt_io::{
     Failure, Fault, Machine, Status, Terminals, Voice, config_of, explain_words, tell_end,
@@ -61,13 +61,11 @@ fn given_words(rt: &(impl Env + Eprint + AllocGlobal)) -> Result<Vec<String>, St
 }
 
 // Does what the words ask for, as the process of this number.
-fn serve<T: Threads + Wait + Clock + Copy + Drop + Send + Sync + 'static>(
-    rt: &HostRuntime,
-    threads: &T,
-    terminals: Terminals,
-    process: u32,
-    words: &[String],
-) -> Status {
+fn serve<R, T>(rt: &R, threads: &T, terminals: Terminals, process: u32, words: &[String]) -> Status
+where
+    R: EndMachine + Env + Sync,
+    T: Threads + Wait + Clock + Copy + Drop + Send + Sync + 'static,
+{
     match read_words(rt.alloc(), words) {
         Ok(asked) => {
             let voice = Voice::new(terminals, asked.quiet);
@@ -82,14 +80,18 @@ fn serve<T: Threads + Wait + Clock + Copy + Drop + Send + Sync + 'static>(
 }
 
 // Does the command, under its configuration if it has one.
-fn do_command<T: Threads + Wait + Clock + Copy + Drop + Send + Sync + 'static>(
-    rt: &HostRuntime,
+fn do_command<R, T>(
+    rt: &R,
     threads: &T,
     terminals: Terminals,
     process: u32,
     voice: Voice,
     asked: &CommandLine<'_>,
-) -> Result<Status, Failure> {
+) -> Result<Status, Failure>
+where
+    R: EndMachine + Env + Sync,
+    T: Threads + Wait + Clock + Copy + Drop + Send + Sync + 'static,
+{
     let settings = &asked.settings;
     match &asked.command {
         Command::Run(script) => run(rt, threads, settings, RunKind::Run, script),

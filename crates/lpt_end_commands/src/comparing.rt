@@ -2,16 +2,17 @@
 
 use crate::errands::{Errand, ErrandKind, Places};
 use crate::ground_told::Teller;
+use crate::machine::LastingFiles;
 use lpt_command_line::GroundWords;
 use lpt_ground::dumped_octets;
 use lpt_ground_run::Asked;
-use lpt_io::{Failure, Fault, Status, write_for_good};
+use lpt_io::{Failure, Fault, Status};
 
 /// Writes the files of what was dumped.
 ///
 /// Errors: `Write`; `Memory`.
 pub fn write_dumps(
-    rt: &HostRuntime,
+    rt: &(impl LastingFiles + AllocGlobal),
     words: &GroundWords<'_>,
     errand: &Errand,
 ) -> Result<Status, Failure> {
@@ -21,7 +22,7 @@ pub fn write_dumps(
         let Ok(octets) = dumped_octets(rt.alloc(), asked) else {
             return Err(Failure::from(Fault::Memory));
         };
-        write_for_good(rt, area.file, &octets)?;
+        rt.write_for_good(area.file, &octets)?;
         rest = behind;
     }
     Ok(Status::Done)

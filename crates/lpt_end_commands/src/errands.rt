@@ -139,7 +139,7 @@ pub fn errand_of(
     let second = reading(alloc, &heads, words, verified, asked.len())?;
     let again = reading(alloc, &heads, words, looked_at, asked.len())?;
     let uplink = uplink_in(alloc, config, words, &heads, &asked)?;
-    let first = Pass::new(terms_of(&heads, tries_of(words)), asked);
+    let first = Pass::new(terms_of(&heads, tries_of(words, uplink.is_some())), asked);
     Ok(Errand {
         places,
         first,
@@ -350,11 +350,12 @@ fn reading(
     Ok(Some((places, Pass::new(terms_of(&heads, words.tries), asked))))
 }
 
-// After how many waits in a row that settled nothing the first pass is given up.
-fn tries_of(words: &GroundWords<'_>) -> u32 {
+// After how many waits in a row that settled nothing the first pass is given up, whose request goes
+// up as a large message, or as it is.
+fn tries_of(words: &GroundWords<'_>, is_large: bool) -> u32 {
     match words.large {
-        Some(large) => large.tries,
-        None => words.tries,
+        Some(large) if is_large => large.tries,
+        _ => words.tries,
     }
 }
 

@@ -3,9 +3,10 @@
 ghost use Rattle.std.specs.Prelude.{◌≤◌};
 
 use crate::ground_puts::Puts;
+use crate::machine::LastingFiles;
 use lpt_ground_chart::{Ending, Flown, FlownRequest, FlownRound, draw, draw_both};
 use lpt_ground_run::{Asked, Fate, RunCounts};
-use lpt_io::{Failure, Fault, write_for_good};
+use lpt_io::{Failure, Fault};
 use std::alloc::{AllocError, Global};
 
 /// What is drawn of the passes of a job.
@@ -78,7 +79,7 @@ impl Charts {
     /// Writes the picture to the file at this path: whole, or not at all.
     ///
     /// Errors: `Write`; `Memory`, also if it ran out while the pass went on.
-    pub fn write(&self, rt: &HostRuntime, path: &str) -> Result<(), Failure> {
+    pub fn write(&self, rt: &(impl LastingFiles + AllocGlobal), path: &str) -> Result<(), Failure> {
         if self.short {
             return Err(Failure::from(Fault::Memory));
         }
@@ -90,7 +91,7 @@ impl Charts {
             Some(second) => draw_both(rt.alloc(), first, second),
         };
         match drawn {
-            Ok(text) => write_for_good(rt, path, text.as_bytes()),
+            Ok(text) => rt.write_for_good(path, text.as_bytes()),
             Err(_) => Err(Failure::from(Fault::Memory)),
         }
     }

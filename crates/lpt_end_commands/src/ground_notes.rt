@@ -2,9 +2,10 @@
 
 use crate::ground_charts::Charts;
 use crate::ground_told::Teller;
+use crate::machine::LastingFiles;
 use lpt_ground::Pass;
 use lpt_ground_run::{Asked, Fate, Notes, RunCounts, digest_of, hear_kept, kept_packets};
-use lpt_io::{Failure, Fault, file_at, octets_from, open_input, write_for_good};
+use lpt_io::{Failure, Fault, Machine, file_at, octets_from, open_input};
 use std::alloc::{AllocError, Global};
 use std::fs;
 use std::io::ErrorKind;
@@ -14,8 +15,8 @@ const FRONT: &str = "lpt ground ";
 
 /// What is told and kept of a pass before each of its rounds.
 #[derive(Drop)]
-pub struct GroundNotes {
-    rt: HostRuntime,
+pub struct GroundNotes<R> {
+    rt: R,
     teller: Teller,
     // The path of the job's file, and its first line, if there is one.
     job: Option<(String, String)>,
@@ -27,12 +28,12 @@ pub struct GroundNotes {
     charts: Option<Charts>,
 }
 
-impl GroundNotes {
+impl<R: Machine> GroundNotes<R> {
     /// The notes of a pass that begins, or that goes on from the file at this path.
     ///
     /// Errors: `Read` if it can't be read, or is another job's; `Memory`.
     pub fn begin(
-        rt: &HostRuntime,
+        rt: &R,
         teller: Teller,
         title: &str,
         pass: &mut Pass,
@@ -51,7 +52,9 @@ impl GroundNotes {
             charts: None,
         })
     }
+}
 
+impl<R: LastingFiles + AllocGlobal> GroundNotes<R> {
     /// Notes from now on what is to be drawn.
     pub fn chart(&mut self) {
         self.charts = Some(Charts::new(self.rt.alloc()));
@@ -83,13 +86,13 @@ impl GroundNotes {
             return Ok(());
         };
         match octets_of(self.rt.alloc(), line.as_str(), asked) {
-            Ok(octets) => write_for_good(&self.rt, path.as_str(), &octets),
+            Ok(octets) => self.rt.write_for_good(path.as_str(), &octets),
             Err(_) => Err(Failure::from(Fault::Memory)),
         }
     }
 }
 
-impl Notes for GroundNotes {
+impl<R: LastingFiles + Eprint + AllocGlobal> Notes for GroundNotes<R> {
     fn keep(&mut self, counts: RunCounts, asked: &[Asked]) -> bool {
         if let Some(charts) = &mut self.charts {
             charts.note(counts, asked);
@@ -126,7 +129,7 @@ fn octets_of(alloc: Global, line: &str, asked: &[Asked]) -> Result<Vec<u8>, Allo
 
 // The job of this pass, at this path: if there is such a file, the pass hears its packets.
 fn job_at(
-    rt: &HostRuntime,
+    rt: &impl Machine,
     title: &str,
     pass: &mut Pass,
     path: &str,
@@ -159,7 +162,7 @@ fn job_at(
 /// no job's.
 ///
 /// Errors: `Read` if it can't be read; `Memory`.
-pub fn source_at(rt: &HostRuntime, path: &str) -> Result<Option<u16>, Failure> {
+pub fn source_at(rt: &impl Machine, path: &str) -> Result<Option<u16>, Failure> {
     if fs::metadata(rt, path).is_err() {
         return Ok(None);
     }

@@ -2,8 +2,9 @@
 
 use crate::ground_notes::source_at;
 use crate::locking::lock_file;
+use crate::machine::{EndMachine, LastingFiles};
 use lpt_command_line::{GroundWords, SourceWords};
-use lpt_io::{Failure, Fault, file_at, tell_text, write_for_good};
+use lpt_io::{Failure, Fault, Machine, file_at, tell_text};
 use std::fs;
 use std::io::ErrorKind;
 
@@ -13,7 +14,7 @@ use std::io::ErrorKind;
 /// Errors: `Read` if a file can't be read, or names no source; `Write` if the source can't be
 /// noted, or another process takes one; `Memory`.
 pub fn source_of(
-    rt: &HostRuntime,
+    rt: &impl EndMachine,
     process: u32,
     words: &GroundWords<'_>,
 ) -> Result<Option<u16>, Failure> {
@@ -33,7 +34,7 @@ pub fn source_of(
 }
 
 // The next source by the file at this path, where it is noted.
-fn next_source(rt: &HostRuntime, path: &str) -> Result<Option<u16>, Failure> {
+fn next_source(rt: &impl EndMachine, path: &str) -> Result<Option<u16>, Failure> {
     let Some(next) = last_source(rt, path)?.checked_add(1) else {
         tell_text(
             rt,
@@ -44,12 +45,12 @@ fn next_source(rt: &HostRuntime, path: &str) -> Result<Option<u16>, Failure> {
     let Ok(text) = format!(in rt.alloc(); "{next}\n") else {
         return Err(Failure::from(Fault::Memory));
     };
-    write_for_good(rt, path, text.as_bytes())?;
+    rt.write_for_good(path, text.as_bytes())?;
     Ok(Some(next))
 }
 
 // The source that the file at this path names, or 0 if there is no such file.
-fn last_source(rt: &HostRuntime, path: &str) -> Result<u16, Failure> {
+fn last_source(rt: &impl Machine, path: &str) -> Result<u16, Failure> {
     if let Err(error) = fs::metadata(rt, path) {
         if error.kind() == ErrorKind::NotFound {
             return Ok(0);

@@ -59,7 +59,7 @@ impl Teller {
 
     /// Tells how many octets were passed over, if some were.
     pub fn tell_strays(self, rt: &(impl Eprint + AllocGlobal), strays: u64) {
-        if strays != 0 {
+        if strays != 0 && self.voice.tells() {
             self.tell_as_line(rt, strays_line(rt.alloc(), self.json, strays));
         }
     }

@@ -1,10 +1,11 @@
 //! What a pass hears and writes.
 
 use crate::ground_notes::GroundNotes;
+use crate::machine::{EndMachine, PlainMachine};
 use lpt_ground_run::{HearFault, Hearing};
-use lpt_io::{Failure, Fault, STANDARD, Watched, open_input};
+use lpt_io::{Failure, Fault, Watched};
 use lpt_text::{FromStd, Source, StreamFault, flush_out};
-use std::fs::{File, OpenOptions};
+use std::fs::OpenOptions;
 use std::io::{self, Printer, Write};
 use std::rt::Files;
 use std::sync::Wait;
@@ -12,7 +13,7 @@ use std::thread::Threads;
 use std::time::Clock;
 
 /// The ear at standard input.
-pub type Ears<T> = Hearing<T, GroundNotes>;
+pub type Ears<R, T> = Hearing<T, GroundNotes<R>>;
 
 /// Where requests are written, each at once: whoever is stopped, none goes in part, since a pipe
 /// takes so few octets whole.
@@ -22,28 +23,30 @@ pub type Wire<W> = FromStd<Watched<W>>;
 /// goes on past octets with which no packet begins.
 ///
 /// Errors: `Read` if no thread could be started; `Memory`.
-pub fn hear<T: Threads + Wait + Clock + Copy + Drop + Send + 'static>(
-    rt: &HostRuntime,
+pub fn hear<R: EndMachine, T: Threads + Wait + Clock + Copy + Drop + Send + 'static>(
+    rt: &R,
     threads: &T,
     resumes: bool,
     wait: u32,
-    notes: GroundNotes,
-) -> Result<Ears<T>, Failure> {
-    hear_source(rt, threads, open_input(rt, STANDARD)?, resumes, wait, notes)
+    notes: GroundNotes<R>,
+) -> Result<Ears<R, T>, Failure> {
+    let source = FromStd::new(rt.standard_input());
+    hear_source(rt, threads, source, resumes, wait, notes)
 }
 
 /// Hears what comes from this source in the same way.
 ///
 /// Errors: as of `hear`.
-pub fn hear_source<T, S>(
-    rt: &HostRuntime,
+pub fn hear_source<R, T, S>(
+    rt: &R,
     threads: &T,
     source: S,
     resumes: bool,
     wait: u32,
-    notes: GroundNotes,
-) -> Result<Ears<T>, Failure>
+    notes: GroundNotes<R>,
+) -> Result<Ears<R, T>, Failure>
 where
+    R: PlainMachine,
     T: Threads + Wait + Clock + Copy + Drop + Send + 'static,
     S: Source + Drop + Send + 'static,
 {
@@ -58,14 +61,14 @@ where
 }
 
 /// Standard output, to which requests are written.
-pub fn output_wire(rt: &HostRuntime) -> Wire<Printer<'_, HostRuntime>> {
+pub fn output_wire<R: Print>(rt: &R) -> Wire<Printer<'_, R>> {
     FromStd::new(Watched::new(io::writer(rt)))
 }
 
 /// The FIFO at this path, to which requests are written.
 ///
 /// Errors: `Write` if it can't be opened.
-pub fn fifo_wire(rt: &HostRuntime, path: &str) -> Result<Wire<File>, Failure> {
+pub fn fifo_wire<R: Files + AllocGlobal>(rt: &R, path: &str) -> Result<Wire<R::File>, Failure> {
     let mut options = OpenOptions::new();
     options.write(true);
     match options.open(rt, path) {

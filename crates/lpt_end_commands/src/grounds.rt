@@ -11,6 +11,7 @@ use crate::ground_sources::source_of;
 use crate::ground_told::{Teller, chart_title, title_of};
 use crate::ground_wires::{Ears, Wire, close, fifo_wire, hear, output_wire};
 use crate::locking::lock_file;
+use crate::machine::{EndMachine, PlainMachine};
 use crate::outputs::{check_chart, overwritten};
 use crate::pieces::{Piece, pieces_of};
 use crate::uplinks::LONGEST_LOAD;
@@ -20,7 +21,6 @@ use lpt_ground::{End, Pass};
 use lpt_ground_run::{PlanFault, carry_pass, carry_uplink};
 use lpt_io::{Failure, Fault, Status, Voice, config_of, first_failure, tell_text, word_refused};
 use lpt_text::{Sink, StreamFault};
-use std::fs::File;
 use std::io::Write;
 use std::sync::Wait;
 use std::thread::Threads;
@@ -31,8 +31,8 @@ use std::time::Clock;
 /// Errors: `Config` if the configuration is refused, or the picture's file is used otherwise;
 /// `Read` if a file or standard input can't be read, or the job's file is another job's; `Write`
 /// if the requests or a file can't be written; `Memory`.
-pub fn ground<T: Threads + Wait + Clock + Copy + Drop + Send + 'static>(
-    rt: &HostRuntime,
+pub fn ground<R: EndMachine, T: Threads + Wait + Clock + Copy + Drop + Send + 'static>(
+    rt: &R,
     threads: &T,
     process: u32,
     voice: Voice,
@@ -54,8 +54,8 @@ pub fn ground<T: Threads + Wait + Clock + Copy + Drop + Send + 'static>(
 }
 
 // Carries these areas, if no other process uses the job's file.
-fn carry_locked<T: Threads + Wait + Clock + Copy + Drop + Send + 'static>(
-    rt: &HostRuntime,
+fn carry_locked<R: EndMachine, T: Threads + Wait + Clock + Copy + Drop + Send + 'static>(
+    rt: &R,
     threads: &T,
     process: u32,
     voice: Voice,
@@ -74,11 +74,11 @@ fn carry_locked<T: Threads + Wait + Clock + Copy + Drop + Send + 'static>(
 /// The lock of the job's file, if there is one.
 ///
 /// Errors: `Write` if another process holds it, or it can't be had.
-pub(crate) fn job_lock(
-    rt: &HostRuntime,
+pub(crate) fn job_lock<R: EndMachine>(
+    rt: &R,
     process: u32,
     words: &GroundWords<'_>,
-) -> Result<Option<File>, Failure> {
+) -> Result<Option<R::File>, Failure> {
     match words.kept {
         None => Ok(None),
         Some(path) => Ok(Some(lock_file(rt, process, path)?)),
@@ -96,7 +96,7 @@ pub(crate) struct Ready {
 ///
 /// Errors: `Read` if a file can't be read; `Write` if the pass's source can't be noted; `Memory`.
 pub(crate) fn ready_of(
-    rt: &HostRuntime,
+    rt: &impl EndMachine,
     process: u32,
     config: &Config,
     words: &GroundWords<'_>,
@@ -153,8 +153,8 @@ fn tell_overlap(rt: &(impl Eprint + AllocGlobal), one: &Places, other: &Places) 
 }
 
 // Carries out what is ready, and keeps what is completed, if that is asked for.
-fn carry_ready<T: Threads + Wait + Clock + Copy + Drop + Send + 'static>(
-    rt: &HostRuntime,
+fn carry_ready<R: EndMachine, T: Threads + Wait + Clock + Copy + Drop + Send + 'static>(
+    rt: &R,
     threads: &T,
     voice: Voice,
     words: &GroundWords<'_>,
@@ -177,9 +177,9 @@ fn carry_ready<T: Threads + Wait + Clock + Copy + Drop + Send + 'static>(
 }
 
 // Carries an errand out over the FIFO at this path.
-fn put_to_fifo<T: Wait + Clock + Drop>(
-    rt: &HostRuntime,
-    ears: &mut Ears<T>,
+fn put_to_fifo<R: EndMachine, T: Wait + Clock + Drop>(
+    rt: &R,
+    ears: &mut Ears<R, T>,
     words: &GroundWords<'_>,
     errand: &mut Errand,
     path: &str,
@@ -190,9 +190,9 @@ fn put_to_fifo<T: Wait + Clock + Drop>(
 
 // Carries an errand out over what has this name, which is closed if it can be, before what comes
 // is heard on.
-pub(crate) fn put_over<T: Wait + Clock + Drop, W: Write + Drop>(
-    rt: &HostRuntime,
-    ears: &mut Ears<T>,
+pub(crate) fn put_over<R: PlainMachine, T: Wait + Clock + Drop, W: Write + Drop>(
+    rt: &R,
+    ears: &mut Ears<R, T>,
     words: &GroundWords<'_>,
     errand: &mut Errand,
     out: Wire<W>,
@@ -212,9 +212,9 @@ pub(crate) fn put_over<T: Wait + Clock + Drop, W: Write + Drop>(
 }
 
 // Writes the picture, if one is wanted.
-fn write_chart<T: Wait + Clock + Drop>(
-    rt: &HostRuntime,
-    ears: &mut Ears<T>,
+fn write_chart<R: PlainMachine, T: Wait + Clock + Drop>(
+    rt: &R,
+    ears: &mut Ears<R, T>,
     words: &GroundWords<'_>,
 ) -> Result<(), Failure> {
     match (words.chart, ears.notes().charts()) {
@@ -238,9 +238,9 @@ fn both(closed: Result<(), Failure>, ended: Result<Status, Failure>) -> Result<S
 }
 
 // Carries an errand out, and tells what became of it.
-fn carry_all<T: Wait + Clock + Drop, K: Sink + Drop>(
-    rt: &HostRuntime,
-    ears: &mut Ears<T>,
+fn carry_all<R: PlainMachine, T: Wait + Clock + Drop, K: Sink + Drop>(
+    rt: &R,
+    ears: &mut Ears<R, T>,
     words: &GroundWords<'_>,
     errand: &mut Errand,
     out: &mut Noted<K>,
@@ -278,9 +278,9 @@ fn status_of(alike: bool) -> Status {
 }
 
 // Reads what was loaded, if that is asked for or the job goes on, and compares it.
-fn verify_load<T: Wait + Clock + Drop, K: Sink + Drop>(
-    rt: &HostRuntime,
-    ears: &mut Ears<T>,
+fn verify_load<R: PlainMachine, T: Wait + Clock + Drop, K: Sink + Drop>(
+    rt: &R,
+    ears: &mut Ears<R, T>,
     words: &GroundWords<'_>,
     errand: &mut Errand,
     out: &mut Noted<K>,
@@ -304,9 +304,9 @@ fn verify_load<T: Wait + Clock + Drop, K: Sink + Drop>(
 }
 
 // Tells what became of the requests of a pass, in which this was put.
-fn tell<T: Wait + Clock + Drop>(
-    rt: &HostRuntime,
-    ears: &mut Ears<T>,
+fn tell<R: PlainMachine, T: Wait + Clock + Drop>(
+    rt: &R,
+    ears: &mut Ears<R, T>,
     words: &GroundWords<'_>,
     places: &[Places],
     pass: &Pass,
@@ -326,9 +326,9 @@ fn tell<T: Wait + Clock + Drop>(
 // Whether a pass that ended so is done.
 //
 // Errors: why it couldn't go on.
-fn is_done<T: Wait + Clock + Drop>(
-    rt: &HostRuntime,
-    ears: &mut Ears<T>,
+fn is_done<R: PlainMachine, T: Wait + Clock + Drop>(
+    rt: &R,
+    ears: &mut Ears<R, T>,
     ended: Result<End, StreamFault>,
 ) -> Result<bool, Failure> {
     match ended {

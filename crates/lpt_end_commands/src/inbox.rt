@@ -46,26 +46,30 @@ impl<T: Wait + Drop> Relay for Handing<T> {
 
 /// Where a spacecraft waits for packets, but not longer than up to its next tick.
 #[derive(Drop)]
-pub struct Inbox<T: Wait + Clock + Drop> {
+pub struct Inbox<R, T: Wait + Clock + Drop> {
     waits: T,
     from: Receiver<Handed>,
-    ticker: Ticker<HostRuntime>,
+    ticker: Ticker<R>,
     // Whether the thread couldn't read on.
     failed: bool,
 }
 
-impl<T: Threads + Wait + Clock + Copy + Drop + Send + 'static> Inbox<T> {
+impl<R, T> Inbox<R, T>
+where
+    R: Clock + AllocGlobal + Copy + Drop,
+    T: Threads + Wait + Clock + Copy + Drop + Send + 'static,
+{
     /// Starts a thread that reads this source, and cuts it into packets; octets that are none are
     /// passed over, or end it. The ticks are those of this clock.
     ///
     /// The thread isn't joined: it ends with its source, with the process, or once it has something
     /// to hand over and this is gone. Errors: `Read` if it couldn't be started; `Memory`.
     pub fn begin<S: Source + Drop + Send + 'static>(
-        rt: &HostRuntime,
+        rt: &R,
         threads: &T,
         source: S,
         passing: bool,
-        ticker: Ticker<HostRuntime>,
+        ticker: Ticker<R>,
     ) -> Result<Self, Failure> {
         let alloc = rt.alloc();
         let Ok((to, from)) = bounded(alloc, READ_AHEAD) else {
@@ -108,7 +112,7 @@ fn read_all<T: Wait + Drop, S: Source + Drop>(
     let _ = handing.to.send(&handing.waits, last);
 }
 
-impl<T: Wait + Clock + Drop> Inlet for Inbox<T> {
+impl<R: Clock, T: Wait + Clock + Drop> Inlet for Inbox<R, T> {
     ghost given = { λ _. None };
 
     ghost failed = { λ inbox. inbox.failed };

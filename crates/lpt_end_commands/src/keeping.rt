@@ -2,35 +2,36 @@
 
 ghost use Rattle.std.specs.Prelude.{◌≡◌, IfOk, None, option_map};
 
+use crate::machine::LastingFiles;
 use lpt_command_line::SpacecraftWords;
-use lpt_io::{Failure, Fault, tell_end, write_for_good};
+use lpt_io::{Failure, Fault, tell_end};
 use lpt_spacecraft::{KeepFault, KeptFiles, Spacecraft, WholeFile, save_one};
 
 /// A file of the machine, which is written whole, or not at all, and forced to the disk.
 #[derive(Drop)]
-pub struct HostFile<'a> {
-    rt: &'a HostRuntime,
+pub struct MachineFile<'a, R> {
+    rt: &'a R,
     path: &'a str,
 }
 
-impl WholeFile for HostFile<'_> {
+impl<R: LastingFiles> WholeFile for MachineFile<'_, R> {
     type Fault = Failure;
 
     // What it has isn't known to the prover.
     ghost content = { λ _. None };
 
     fn replace(&mut self, octets: &[u8]) -> Result<(), Failure> {
-        write_for_good(self.rt, self.path, octets)
+        self.rt.write_for_good(self.path, octets)
     }
 }
 
 /// The files that the words name, of which those of the memories are saved if that is asked for;
 /// that of the state is at this path, if it is kept. The only error is out of memory.
-pub fn kept_files<'a>(
-    rt: &'a HostRuntime,
+pub fn kept_files<'a, R: LastingFiles + AllocGlobal>(
+    rt: &'a R,
     words: &SpacecraftWords<'a>,
     state: Option<&'a str>,
-) -> Result<KeptFiles<HostFile<'a>>, Failure>
+) -> Result<KeptFiles<MachineFile<'a, R>>, Failure>
     // The file of the state is the one at this path.
     ensures its_path { IfOk result (λ files. option_map (λ file. file.path.now) files.state
         ≡ option_map (λ path. path.now) state.entry) }
@@ -38,21 +39,21 @@ pub fn kept_files<'a>(
     let mut saved = Vec::new(rt.alloc());
     if words.save {
         for (id, path) in &words.memories {
-            let file = HostFile { rt, path: *path };
+            let file = MachineFile { rt, path: *path };
             if saved.push((*id, file)).is_err() {
                 return Err(Failure::from(Fault::Memory));
             }
         }
     }
     let state = match state {
-        Some(path) => Some(HostFile { rt, path }),
+        Some(path) => Some(MachineFile { rt, path }),
         None => None,
     };
     Ok(KeptFiles::new(state, saved))
 }
 
 /// Why a spacecraft couldn't be kept in these files, or that memory ran out.
-pub fn keep_failure(files: KeptFiles<HostFile<'_>>) -> Failure {
+pub fn keep_failure<R: LastingFiles>(files: KeptFiles<MachineFile<'_, R>>) -> Failure {
     match files.into_failure() {
         Some(KeepFault::File(failure)) => failure,
         _ => Failure::from(Fault::Memory),
@@ -64,13 +65,13 @@ pub fn keep_failure(files: KeptFiles<HostFile<'_>>) -> Failure {
 ///
 /// Errors: that of the last one that couldn't be written.
 pub fn save_all(
-    rt: &HostRuntime,
+    rt: &(impl LastingFiles + Eprint),
     craft: &Spacecraft,
     words: &SpacecraftWords<'_>,
 ) -> Result<(), Failure> {
     let mut saved = Ok(());
     for (id, path) in &words.memories {
-        let mut file = HostFile { rt, path: *path };
+        let mut file = MachineFile { rt, path: *path };
         if let Err(failure) = save_one(&mut file, craft, *id) {
             if let Err(before) = saved {
                 tell_end(rt, Err(before));

@@ -1,7 +1,7 @@
 //! The commands of the two ends: ground's, the spacecraft's, and both in one process.
 //!
-//! They use threads, files and standard input and output of the machine, so they take the runtime
-//! that `main` is given. The first call is `ground`.
+//! Each takes the handles that it uses by bounds: threads, and an `EndMachine`, which is what
+//! every command reaches and what an end reaches besides. The first call is `ground`.
 #![tactic(auto)]
 
 mod comparing;
@@ -18,6 +18,7 @@ mod inbox;
 mod keeping;
 mod locking;
 mod logging;
+mod machine;
 mod memories;
 mod outputs;
 mod passing;
@@ -32,6 +33,7 @@ mod wires;
 
 pub use grounds::ground;
 pub use lpt_command_line::{GroundWords, PassWords, SettingWords, SpacecraftWords};
-pub use lpt_io::{Failure, Status, Voice};
+pub use lpt_io::{Failure, Machine, Status, Voice};
+pub use machine::{EndMachine, LastingFiles};
 pub use passing::pass;
 pub use serving::spacecraft;

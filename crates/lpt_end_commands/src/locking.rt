@@ -1,26 +1,26 @@
 //! A file that no other process uses.
 
+use crate::machine::EndMachine;
 use lpt_io::{Failure, Fault};
-use std::fs::{File, OpenOptions, TryLockError};
+use std::fs::{OpenFile, OpenOptions, TryLockError};
 use std::io::{self, Write};
 
 /// The lock of the file at this path for the process of this number, which is held until it is
-/// dropped. It is one of the file
-/// beside it whose name ends in `.lock`, which stays, with the number of the process that held it
-/// last. Whatever ends a process, the system gives up its locks.
+/// dropped. It is one of the file beside it whose name ends in `.lock`, which stays, with the
+/// number of the process that held it last. Whatever ends a process, the system gives up its locks.
 ///
 /// Errors: `Write` if another process holds it, or it can't be had.
-pub fn lock_file(rt: &HostRuntime, process: u32, path: &str) -> Result<File, Failure> {
+pub fn lock_file<R: EndMachine>(rt: &R, process: u32, path: &str) -> Result<R::File, Failure> {
     let Ok(name) = format!(in rt.alloc(); "{path}.lock") else {
         return Err(Failure::from(Fault::Memory));
     };
     let mut options = OpenOptions::new();
     options.write(true).create(true);
-    let file = match options.open(rt, name.as_str()) {
+    let mut file = match options.open(rt, name.as_str()) {
         Ok(file) => file,
         Err(error) => return Err(not_locked(rt, name.as_str(), &error)),
     };
-    match file.try_lock() {
+    match rt.try_lock(&file) {
         Ok(()) => {}
         Err(fault) => {
             drop(file);
@@ -30,7 +30,7 @@ pub fn lock_file(rt: &HostRuntime, process: u32, path: &str) -> Result<File, Fai
             });
         }
     }
-    write_number(process, &file);
+    write_number(process, &mut file);
     Ok(file)
 }
 
@@ -49,9 +49,8 @@ fn not_locked(rt: &impl AllocGlobal, name: &str, error: &io::Error) -> Failure {
 }
 
 // Writes the number of a process into the file of a lock, for who asks who holds it.
-fn write_number(process: u32, file: &File) {
+fn write_number<F: OpenFile + Write>(process: u32, file: &mut F) {
     if file.set_len(0).is_ok() {
-        let mut file = file;
         let _ = writeln!(file, "{process}");
     }
 }

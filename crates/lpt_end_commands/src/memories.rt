@@ -2,16 +2,17 @@
 
 use crate::same_files::is_same;
 use lpt_command_line::SpacecraftWords;
-use lpt_io::{Failure, Fault, octets_from, open_input};
+use lpt_io::{Failure, Fault, Machine, octets_from, open_input};
 use lpt_memory::{MEMORY_LIMIT, Memories, SIZE_LIMIT};
 use lpt_packet::Octets;
 use std::fs;
+use std::rt::Files;
 
 /// The memories whose first contents are the files that the words name.
 ///
 /// Errors: `Read` if one can't be read; `Config` if a file is empty or too long, there are
 /// more than 16, or two of one identifier, or two of one file in which they are saved; `Memory`.
-pub fn memories_of(rt: &HostRuntime, words: &SpacecraftWords<'_>) -> Result<Memories, Failure> {
+pub fn memories_of(rt: &impl Machine, words: &SpacecraftWords<'_>) -> Result<Memories, Failure> {
     let count = words.memories.len();
     if count > MEMORY_LIMIT {
         let place = format!(in rt.alloc();
@@ -36,7 +37,7 @@ pub fn memories_of(rt: &HostRuntime, words: &SpacecraftWords<'_>) -> Result<Memo
 // Reads each file, unless there was a memory of its identifier before it, or one that is saved in
 // the same file.
 fn read_memories(
-    rt: &HostRuntime,
+    rt: &impl Machine,
     words: &SpacecraftWords<'_>,
     list: &mut Vec<(u8, Octets)>,
 ) -> Result<(), Failure> {
@@ -64,7 +65,7 @@ fn read_memories(
 // The memory among the first so many that is saved in the file to which this path leads as well, if
 // there is one.
 fn memory_of(
-    rt: &HostRuntime,
+    rt: &(impl Files + AllocGlobal),
     words: &SpacecraftWords<'_>,
     count: usize,
     path: &str,
@@ -82,7 +83,7 @@ fn memory_of(
 
 // The octets of a file that can be a memory. One that says beforehand that it is too long isn't
 // read.
-fn read_one(rt: &HostRuntime, file: &str) -> Result<Octets, Failure> {
+fn read_one(rt: &impl Machine, file: &str) -> Result<Octets, Failure> {
     if let Ok(known) = fs::metadata(rt, file) {
         if known.is_file() && known.len() > SIZE_LIMIT as u64 {
             return Err(wrong_size(rt, file, known.len()));

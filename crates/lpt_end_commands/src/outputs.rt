@@ -3,11 +3,12 @@
 use crate::same_files::is_same;
 use lpt_command_line::{GroundWords, Job, SettingWords, SourceWords, SpacecraftWords, WordFault};
 use lpt_io::{Failure, Fault};
+use std::rt::Files;
 
 /// The first file of a dump that is another one of it as well, or that these words read or keep,
 /// those of the spacecraft among them if there are some.
 pub fn overwritten<'a>(
-    rt: &HostRuntime,
+    rt: &(impl Files + AllocGlobal),
     settings: &SettingWords<'_>,
     words: &GroundWords<'a>,
     craft: Option<&SpacecraftWords<'_>>,
@@ -33,7 +34,7 @@ pub fn overwritten<'a>(
 ///
 /// Errors: `Config`.
 pub fn check_chart(
-    rt: &HostRuntime,
+    rt: &(impl Files + AllocGlobal),
     settings: &SettingWords<'_>,
     words: &GroundWords<'_>,
     craft: Option<&SpacecraftWords<'_>>,
@@ -56,14 +57,14 @@ pub fn check_chart(
 }
 
 /// That this one has the picture's file already.
-pub(crate) fn chart_refused(rt: &HostRuntime, file: &str, other: &str) -> Failure {
+pub(crate) fn chart_refused(rt: &impl AllocGlobal, file: &str, other: &str) -> Failure {
     let place = format!(in rt.alloc(); "--chart {file}: it is the file of {other} as well");
     Failure::at(Fault::Config, place)
 }
 
 // The option that names this file, if one does.
 fn used_by(
-    rt: &HostRuntime,
+    rt: &(impl Files + AllocGlobal),
     settings: &SettingWords<'_>,
     words: &GroundWords<'_>,
     craft: Option<&SpacecraftWords<'_>>,
@@ -74,6 +75,9 @@ fn used_by(
     }
     if is_at(rt, words.kept, file) {
         return Some("--job <FILE>");
+    }
+    if is_at(rt, words.up, file) {
+        return Some("--up <FIFO>");
     }
     if let SourceWords::Next(path) = words.source {
         if is_same(rt, path, file) {
@@ -93,7 +97,7 @@ fn used_by(
 }
 
 // Whether this path, if there is one, leads to the same file.
-fn is_at(rt: &HostRuntime, path: Option<&str>, file: &str) -> bool {
+fn is_at(rt: &(impl Files + AllocGlobal), path: Option<&str>, file: &str) -> bool {
     match path {
         Some(path) => is_same(rt, path, file),
         None => false,

@@ -7,6 +7,7 @@ use crate::ground_notes::GroundNotes;
 use crate::ground_told::Teller;
 use crate::ground_wires::hear_source;
 use crate::grounds::{Ready, job_lock, put_over, ready_of};
+use crate::machine::{EndMachine, PlainMachine};
 use crate::outputs::{check_chart, overwritten};
 use crate::pieces::{Piece, pieces_of};
 use crate::pipe::{PipeReader, PipeWriter, Unread, pipe};
@@ -27,8 +28,8 @@ use std::time::Clock;
 /// as the process of this number.
 ///
 /// Errors: as of `ground` and of `spacecraft`; the spacecraft's before ground's.
-pub fn pass<T>(
-    rt: &HostRuntime,
+pub fn pass<R, T>(
+    rt: &R,
     threads: &T,
     process: u32,
     voice: Voice,
@@ -36,6 +37,7 @@ pub fn pass<T>(
     words: &PassWords<'_>,
 ) -> Result<Status, Failure>
 where
+    R: EndMachine + Sync,
     T: Threads + Wait + Clock + Copy + Drop + Send + Sync + 'static,
 {
     // The pass's own source is none of the spacecraft's: its state goes on from pass to pass.
@@ -69,8 +71,8 @@ where
 }
 
 // Carries these areas under this configuration, if no other process uses the job's file.
-fn fly_locked<T>(
-    rt: &HostRuntime,
+fn fly_locked<R, T>(
+    rt: &R,
     threads: &T,
     process: u32,
     voice: Voice,
@@ -79,22 +81,23 @@ fn fly_locked<T>(
     asked: (&Config, Vec<Piece>),
 ) -> Result<Status, Failure>
 where
+    R: EndMachine + Sync,
     T: Threads + Wait + Clock + Copy + Drop + Send + Sync + 'static,
     requires { IsConfig asked.0.now }
 {
     let (config, pieces) = asked;
     let kept = is_kept(words, &pieces);
-    let craft = begun_craft(rt, process, settings, &words.craft)?;
-    match ready_of(rt, process, config, &words.ground, pieces)? {
-        Some(ready) => {
-            let status = fly_noted(rt, threads, voice, words, craft, ready)?;
-            if !kept {
-                Teller::new(voice, words.ground.json).tell_unkept(rt);
-            }
-            Ok(status)
-        }
-        None => Ok(Status::Refused),
+    let (craft, locks) = begun_craft(rt, process, settings, &words.craft)?;
+    let Some(ready) = ready_of(rt, process, config, &words.ground, pieces)? else {
+        return Ok(Status::Refused);
+    };
+    let ended = fly_noted(rt, threads, voice, words, craft, ready);
+    drop(locks);
+    let status = ended?;
+    if !kept {
+        Teller::new(voice, words.ground.json).tell_unkept(rt);
     }
+    Ok(status)
 }
 
 // Whether what these areas load outlasts the process. If the job's file does and this doesn't,
@@ -114,8 +117,8 @@ fn is_kept(words: &PassWords<'_>, pieces: &[Piece]) -> bool {
 }
 
 // Carries out what is ready with this spacecraft, from the job's file on, if there is one.
-fn fly_noted<T>(
-    rt: &HostRuntime,
+fn fly_noted<R, T>(
+    rt: &R,
     threads: &T,
     voice: Voice,
     words: &PassWords<'_>,
@@ -123,6 +126,7 @@ fn fly_noted<T>(
     ready: Ready,
 ) -> Result<Status, Failure>
 where
+    R: EndMachine + Sync,
     T: Threads + Wait + Clock + Copy + Drop + Send + Sync + 'static,
 {
     let Ready { mut errand, title } = ready;
@@ -201,15 +205,16 @@ fn new_pipes<T: Wait + Copy + Drop>(alloc: Global, waits: &T) -> Result<Pipes<T>
 }
 
 // Carries out what is ready, with a thread for each link and for the spacecraft.
-fn fly<T>(
-    rt: &HostRuntime,
+fn fly<R, T>(
+    rt: &R,
     threads: &T,
     words: &PassWords<'_>,
     begun: Begun,
     errand: Errand,
-    notes: GroundNotes,
+    notes: GroundNotes<R>,
 ) -> Result<Status, Failure>
 where
+    R: EndMachine + Sync,
     T: Threads + Wait + Clock + Copy + Drop + Send + Sync + 'static,
 {
     let Ok(pipes) = new_pipes(rt.alloc(), threads) else {
@@ -225,16 +230,16 @@ where
     let (to_craft, at_craft) = craft_up;
     let (from_craft, at_link) = craft_down;
     let (to_ground, down) = ground_down;
-    let odds = words.odds;
+    let (alloc, odds) = (rt.alloc(), words.odds);
     let craft = &words.craft;
     thread::scope(
         thread::scope_env(),
         threads,
         move |scope| -> Result<Status, Failure> {
-            let wires = Wires::Pipes(at_craft, from_craft);
-            let link_up = scope.spawn(move || carry_link(rt, odds, 0, from_ground, to_craft));
+            let wires: Wires<T, PipeReader<T>> = Wires::Pipes(at_craft, from_craft);
+            let link_up = scope.spawn(move || carry_link(alloc, odds, 0, from_ground, to_craft));
             let craft = scope.spawn(move || serve(rt, threads, begun, craft, wires));
-            let link_down = scope.spawn(move || carry_link(rt, odds, 1, at_link, to_ground));
+            let link_down = scope.spawn(move || carry_link(alloc, odds, 1, at_link, to_ground));
             let (Ok(link_up), Ok(craft), Ok(link_down)) = (link_up, craft, link_down) else {
                 let place = format!(in rt.alloc(); "no thread could be started");
                 return Err(Failure::at(Fault::Read, place));
@@ -247,7 +252,7 @@ where
 
 // Carries packets over a link, whose seed is so much more than the one that is given.
 fn carry_link<T: Wait + Drop>(
-    rt: &HostRuntime,
+    alloc: Global,
     words: OddsWords,
     way: u64,
     from: PipeReader<T>,
@@ -266,7 +271,7 @@ fn carry_link<T: Wait + Drop>(
     let mut dice = Dice::new(odds, words.seed.wrapping_add(way));
     let mut source = FromStd::new(from);
     let mut out = FromStd::new(Watched::new(to));
-    let carried = lossy_stream(rt.alloc(), &link, &mut dice, &mut source, &mut out);
+    let carried = lossy_stream(alloc, &link, &mut dice, &mut source, &mut out);
     drop(source);
     drop(out);
     carried?;
@@ -274,12 +279,12 @@ fn carry_link<T: Wait + Drop>(
 }
 
 // Ground's end over these pipes. The one up is closed before what still comes is heard.
-fn carry_between<T: Threads + Wait + Clock + Copy + Drop + Send + 'static>(
-    rt: &HostRuntime,
+fn carry_between<R: PlainMachine, T: Threads + Wait + Clock + Copy + Drop + Send + 'static>(
+    rt: &R,
     threads: &T,
     words: &PassWords<'_>,
     errand: Errand,
-    notes: GroundNotes,
+    notes: GroundNotes<R>,
     (up, down): (PipeWriter<T>, PipeReader<T>),
 ) -> Result<Status, Failure> {
     let mut errand = errand;

@@ -5,9 +5,10 @@ use crate::pieces::Piece;
 use crate::same_files::is_same;
 use lpt_ground::overlap;
 use lpt_ground_run::AreaPlace;
-use lpt_io::{Failure, Fault, STANDARD, file_at, read_file, tell_text};
+use lpt_io::{Failure, Fault, Machine, STANDARD, file_at, read_file, tell_text};
 use lpt_settings::{Reason, Wrong, complain_of_toml, has_only, number, unknown_key};
 use std::alloc::{AllocError, Global};
+use std::rt::Files;
 use std::str;
 use toml::{Table, Value};
 
@@ -67,7 +68,7 @@ struct Patch<'t> {
 /// Errors: `Read` if the list or one of its files can't be read; `Config` if the list has more than
 /// 1,048,576 octets, or the picture's file is one of a patch; `Memory`.
 pub fn patches_at(
-    rt: &HostRuntime,
+    rt: &impl Machine,
     path: &str,
     chart: Option<&str>,
 ) -> Result<Option<Vec<Piece>>, Failure> {
@@ -95,7 +96,7 @@ pub fn patches_at(
 
 // What the list with this table has loaded.
 fn patches_in(
-    rt: &HostRuntime,
+    rt: &impl Machine,
     path: &str,
     chart: Option<&str>,
     table: &Table,
@@ -125,7 +126,11 @@ fn patches_in(
 }
 
 // Refuses a picture in a patch's file.
-fn check_patch(rt: &HostRuntime, file: &str, chart: Option<&str>) -> Result<(), Failure> {
+fn check_patch(
+    rt: &(impl Files + AllocGlobal),
+    file: &str,
+    chart: Option<&str>,
+) -> Result<(), Failure> {
     match chart {
         Some(chart) if is_same(rt, file, chart) => Err(chart_refused(rt, chart, "a patch")),
         _ => Ok(()),
@@ -273,7 +278,7 @@ fn verify_in(table: &Table) -> Result<bool, Flaw<'_>> {
 }
 
 // A patch with the octets of its file.
-fn piece_of(rt: &HostRuntime, patch: Patch<'_>) -> Result<Piece, Failure> {
+fn piece_of(rt: &impl Machine, patch: Patch<'_>) -> Result<Piece, Failure> {
     let octets = file_at(rt, patch.file)?;
     Ok(Piece {
         memory: patch.memory,

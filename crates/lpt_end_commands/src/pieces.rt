@@ -2,7 +2,7 @@
 
 use crate::patches::patches_at;
 use lpt_command_line::{AreaWords, GroundWords, Job};
-use lpt_io::{Failure, Fault, file_at};
+use lpt_io::{Failure, Fault, Machine, file_at};
 use lpt_packet::Octets;
 
 /// An area of a job.
@@ -24,7 +24,10 @@ pub struct Piece {
 /// that was told.
 ///
 /// Errors: as of `patches_at`.
-pub fn pieces_of(rt: &HostRuntime, words: &GroundWords<'_>) -> Result<Option<Vec<Piece>>, Failure> {
+pub fn pieces_of(
+    rt: &impl Machine,
+    words: &GroundWords<'_>,
+) -> Result<Option<Vec<Piece>>, Failure> {
     if let Some(path) = words.list {
         return patches_at(rt, path, words.chart);
     }
@@ -38,7 +41,7 @@ pub fn pieces_of(rt: &HostRuntime, words: &GroundWords<'_>) -> Result<Option<Vec
 }
 
 // The area of these words.
-fn piece_of(rt: &HostRuntime, job: Job, area: &AreaWords<'_>) -> Result<Piece, Failure> {
+fn piece_of(rt: &impl Machine, job: Job, area: &AreaWords<'_>) -> Result<Piece, Failure> {
     let octets = match job {
         Job::Dump => Octets::from_vec(Vec::new(rt.alloc())),
         _ => file_at(rt, area.file)?,

@@ -6,16 +6,19 @@ ghost use Rattle.lpt_spacecraft.specs.Streams.{IsIdle};
 
 use crate::keeping::save_all;
 use crate::locking::lock_file;
+use crate::machine::{EndMachine, PlainMachine};
 use crate::memories::memories_of;
 use crate::wires::{Wires, serve_kept};
 use lpt_command_line::{SettingWords, SpacecraftWords};
 use lpt_events::Config;
-use lpt_io::{Failure, Fault, Status, file_behind, octets_from, open_input, settings_of, tell_end};
+use lpt_io::{
+    Failure, Fault, Machine, Status, file_behind, octets_from, open_input, settings_of, tell_end,
+};
 use lpt_memory::Memories;
 use lpt_spacecraft::Spacecraft;
 use std::alloc::{AllocError, Global};
-use std::fs::{self, File};
-use std::io::ErrorKind;
+use std::fs;
+use std::io::{ErrorKind, Read};
 use std::sync::Wait;
 use std::thread::Threads;
 use std::time::Clock;
@@ -30,28 +33,30 @@ use std::time::Clock;
 /// Errors: `Read` if a file or standard input can't be read, or a file isn't what was kept;
 /// `Config` if the files make no memories, or others than were kept; `Write`, also if a file can't
 /// be written, or another process uses one of those that are; `Memory`.
-pub fn spacecraft<T>(
-    rt: &HostRuntime,
+pub fn spacecraft<R, T>(
+    rt: &R,
     threads: &T,
     process: u32,
     settings: &SettingWords<'_>,
     words: &SpacecraftWords<'_>,
 ) -> Result<Status, Failure>
 where
+    R: EndMachine,
     T: Threads + Wait + Clock + Copy + Drop + Send + 'static,
 {
-    let begun = begun_craft(rt, process, settings, words)?;
-    serve(rt, threads, begun, words, Wires::Standard)
+    let (begun, locks) = begun_craft(rt, process, settings, words)?;
+    let wires = Wires::Standard(rt.standard_input());
+    let ended = serve(rt, threads, begun, words, wires);
+    drop(locks);
+    ended
 }
 
 /// A spacecraft that serves next.
 #[derive(Drop)]
 pub(crate) struct Begun {
     craft: Spacecraft,
-    // The path of the file in which it is kept, if it is, and the lock of that.
-    state: Option<(String, File)>,
-    // The locks of the memories' files, if these are saved.
-    saved: Vec<File>,
+    // The path of the file in which it is kept, if it is.
+    state: Option<String>,
     ghost idle: { IsIdle craft },
 }
 
@@ -62,17 +67,18 @@ impl Begun {
     }
 }
 
-/// The spacecraft of these words: the one that was kept, or a new one.
+/// The spacecraft of these words: the one that was kept, or a new one. With it come the locks of
+/// the files that it writes: no other process uses one of those before they are dropped.
 ///
 /// Errors: `Read` if a file can't be read, or isn't what was kept; `Config` if the files make no
 /// memories, or others than were kept; `Write` if another process uses a file that is written;
 /// `Memory`.
-pub(crate) fn begun_craft(
-    rt: &HostRuntime,
+pub(crate) fn begun_craft<R: EndMachine>(
+    rt: &R,
     process: u32,
     settings: &SettingWords<'_>,
     words: &SpacecraftWords<'_>,
-) -> Result<Begun, Failure> {
+) -> Result<(Begun, Vec<R::File>), Failure> {
     let (config, usual, _) = settings_of(rt, settings)?;
     let memories = if words.memories.is_empty() {
         usual
@@ -80,8 +86,8 @@ pub(crate) fn begun_craft(
         drop(usual);
         memories_of(rt, words)?
     };
-    let saved = match saved_locks(rt, process, words) {
-        Ok(saved) => saved,
+    let mut locks = match saved_locks(rt, process, words) {
+        Ok(locks) => locks,
         Err(failure) => {
             drop(memories);
             return Err(failure);
@@ -89,11 +95,7 @@ pub(crate) fn begun_craft(
     };
     let Some(path) = words.state else {
         let craft = new_craft(rt, &config, memories)?;
-        return Ok(Begun {
-            craft,
-            state: None,
-            saved,
-        });
+        return Ok((Begun { craft, state: None }, locks));
     };
     let (path, lock) = match locked_file(rt, process, path) {
         Ok(both) => both,
@@ -102,25 +104,21 @@ pub(crate) fn begun_craft(
             return Err(failure);
         }
     };
-    match craft_begun(rt, &config, memories, words, path.as_str()) {
-        Ok(craft) => Ok(Begun {
-            craft,
-            state: Some((path, lock)),
-            saved,
-        }),
-        Err(failure) => {
-            drop(lock);
-            Err(failure)
-        }
+    if locks.push(lock).is_err() {
+        drop(memories);
+        return Err(Failure::from(Fault::Memory));
     }
+    let craft = craft_begun(rt, &config, memories, words, path.as_str())?;
+    let state = Some(path);
+    Ok((Begun { craft, state }, locks))
 }
 
 // The locks of the memories' files, if these are saved: no other process saves one meanwhile.
-fn saved_locks(
-    rt: &HostRuntime,
+fn saved_locks<R: EndMachine>(
+    rt: &R,
     process: u32,
     words: &SpacecraftWords<'_>,
-) -> Result<Vec<File>, Failure> {
+) -> Result<Vec<R::File>, Failure> {
     let mut locks = Vec::new(rt.alloc());
     if words.save {
         for (_, path) in &words.memories {
@@ -136,40 +134,34 @@ fn saved_locks(
 /// Serves with a spacecraft over these wires.
 ///
 /// Errors: as of `spacecraft`.
-pub(crate) fn serve<T>(
-    rt: &HostRuntime,
+pub(crate) fn serve<R, T, I>(
+    rt: &R,
     threads: &T,
     begun: Begun,
     words: &SpacecraftWords<'_>,
-    wires: Wires<T>,
+    wires: Wires<T, I>,
 ) -> Result<Status, Failure>
 where
+    R: PlainMachine,
     T: Threads + Wait + Clock + Copy + Drop + Send + 'static,
+    I: Read + Drop + Send + 'static,
 {
-    let Begun {
-        mut craft,
-        state,
-        saved,
-    } = begun;
-    let ended = match state {
-        None => {
-            let ended = serve_saved(rt, threads, &mut craft, words, None, wires);
-            drop(craft);
-            ended
-        }
-        Some((path, lock)) => {
-            let ended = serve_saved(rt, threads, &mut craft, words, Some(path.as_str()), wires);
-            drop(craft);
-            drop(lock);
-            ended
-        }
+    let Begun { mut craft, state } = begun;
+    let path = match &state {
+        Some(path) => Some(path.as_str()),
+        None => None,
     };
-    drop(saved);
+    let ended = serve_saved(rt, threads, &mut craft, words, path, wires);
+    drop(craft);
     ended
 }
 
 // The file to which this path leads, and its lock: no other process serves with it meanwhile.
-fn locked_file(rt: &HostRuntime, process: u32, path: &str) -> Result<(String, File), Failure> {
+fn locked_file<R: EndMachine>(
+    rt: &R,
+    process: u32,
+    path: &str,
+) -> Result<(String, R::File), Failure> {
     let path = match file_behind(rt, path) {
         Ok(path) => path,
         Err(error) => {
@@ -183,16 +175,18 @@ fn locked_file(rt: &HostRuntime, process: u32, path: &str) -> Result<(String, Fi
 
 // Serves over these wires, keeps the state at this path, if there is one, and saves the memories if
 // that is asked for.
-fn serve_saved<T>(
-    rt: &HostRuntime,
+fn serve_saved<R, T, I>(
+    rt: &R,
     threads: &T,
     craft: &mut Spacecraft,
     words: &SpacecraftWords<'_>,
     state: Option<&str>,
-    wires: Wires<T>,
+    wires: Wires<T, I>,
 ) -> Result<Status, Failure>
 where
+    R: PlainMachine,
     T: Threads + Wait + Clock + Copy + Drop + Send + 'static,
+    I: Read + Drop + Send + 'static,
     requires { IsIdle craft.old }
 {
     let ended = serve_kept(rt, threads, craft, words, state, wires);
@@ -226,7 +220,7 @@ fn new_craft(
 // The spacecraft that was kept in this file, if its memories are those of the words, or a new one
 // if there is no such file.
 fn craft_begun(
-    rt: &HostRuntime,
+    rt: &impl Machine,
     config: &Config,
     memories: Memories,
     words: &SpacecraftWords<'_>,
@@ -285,7 +279,7 @@ fn unlike_of(
 }
 
 // The spacecraft that was kept in this file.
-fn craft_at(rt: &HostRuntime, config: &Config, path: &str) -> Result<Spacecraft, Failure>
+fn craft_at(rt: &impl Machine, config: &Config, path: &str) -> Result<Spacecraft, Failure>
     requires { IsConfig config.now }
     ensures { IfOk result IsIdle }
 {

@@ -6,24 +6,26 @@ ghost use Rattle.lpt_spacecraft.specs.Streams.{IsIdle};
 use crate::inbox::Inbox;
 use crate::keeping::{keep_failure, kept_files};
 use crate::logging::{Log, Silent};
+use crate::machine::PlainMachine;
 use crate::pipe::{PipeReader, PipeWriter};
 use crate::ticker::{Stopped, Ticker};
 use lpt_command_line::SpacecraftWords;
 use lpt_io::{
-    Failure, Fault, STANDARD, Status, Watched, finish, first_failure, open_input, output,
-    read_failure, tell_place,
+    Failure, Fault, STANDARD, Status, Watched, finish, first_failure, output, read_failure,
+    tell_place,
 };
 use lpt_spacecraft::{Keeper, Pace, Spacecraft, Stop, serve_stream, serve_waiting};
 use lpt_text::{FromStd, StreamFault};
+use std::io::Read;
 use std::sync::Wait;
 use std::thread::Threads;
 use std::time::Clock;
 
 /// What a spacecraft hears and writes over.
 #[derive(Drop)]
-pub(crate) enum Wires<T: Wait + Drop> {
-    /// Standard input and output.
-    Standard,
+pub(crate) enum Wires<T: Wait + Drop, I> {
+    /// Standard input, which this reads, and standard output.
+    Standard(I),
     /// Pipes to other threads.
     Pipes(PipeReader<T>, PipeWriter<T>),
 }
@@ -31,16 +33,18 @@ pub(crate) enum Wires<T: Wait + Drop> {
 /// Serves over these wires, and keeps the spacecraft if that is asked for.
 ///
 /// Errors: as of `spacecraft`.
-pub(crate) fn serve_kept<T>(
-    rt: &HostRuntime,
+pub(crate) fn serve_kept<R, T, I>(
+    rt: &R,
     threads: &T,
     craft: &mut Spacecraft,
     words: &SpacecraftWords<'_>,
     state: Option<&str>,
-    wires: Wires<T>,
+    wires: Wires<T, I>,
 ) -> Result<Status, Failure>
 where
+    R: PlainMachine,
     T: Threads + Wait + Clock + Copy + Drop + Send + 'static,
+    I: Read + Drop + Send + 'static,
     requires { IsIdle craft.old }
 {
     let mut keeper = kept_files(rt, words, state)?;
@@ -48,7 +52,7 @@ where
         return Err(keep_failure(keeper));
     }
     let ended = match wires {
-        Wires::Standard => serve_standard(rt, threads, craft, words, &mut keeper),
+        Wires::Standard(input) => { serve_standard(rt, threads, craft, words, &mut keeper, input) }
         Wires::Pipes(source, out) => {
             serve_pipes(rt, threads, craft, words, &mut keeper, (source, out))
         }
@@ -62,35 +66,39 @@ where
 }
 
 // Serves standard input, and says where it stopped.
-fn serve_standard<T, H: Keeper>(
-    rt: &HostRuntime,
+fn serve_standard<R, T, I, H: Keeper>(
+    rt: &R,
     threads: &T,
     craft: &mut Spacecraft,
     words: &SpacecraftWords<'_>,
     keeper: &mut H,
+    input: I,
 ) -> Result<Status, Failure>
 where
+    R: PlainMachine,
     T: Threads + Wait + Clock + Copy + Drop + Send + 'static,
+    I: Read + Drop + Send + 'static,
     requires idle { IsIdle craft.old }
     requires kept { IsKeptAs (H.kept keeper.old) craft.old }
 {
     if words.tick == 0 {
-        return serve_input(rt, craft, words, keeper);
+        return serve_input(rt, craft, words, keeper, input);
     }
-    wait_for_input(rt, threads, craft, words, keeper)
+    wait_for_input(rt, threads, craft, words, keeper, input)
 }
 
 // Serves it if no clock ticks.
-fn serve_input<H: Keeper>(
-    rt: &HostRuntime,
+fn serve_input<R: PlainMachine, I: Read + Drop, H: Keeper>(
+    rt: &R,
     craft: &mut Spacecraft,
     words: &SpacecraftWords<'_>,
     keeper: &mut H,
+    input: I,
 ) -> Result<Status, Failure>
     requires idle { IsIdle craft.old }
     requires kept { IsKeptAs (H.kept keeper.old) craft.old }
 {
-    let mut source = open_input(rt, STANDARD)?;
+    let mut source = FromStd::new(Watched::new(input));
     let mut out = output(rt)?;
     let pace = pace_of(words);
     let mut log = Log::new(rt, craft.source(), words.log);
@@ -104,7 +112,7 @@ fn serve_input<H: Keeper>(
         &mut out,
     );
     let failure = match ended {
-        Err(StreamFault::Read) => Some(read_failure(rt, &source, STANDARD)),
+        Err(StreamFault::Read) => Some(read_failure(rt, source.inner(), STANDARD)),
         _ => None,
     };
     drop(source);
@@ -116,20 +124,23 @@ fn serve_input<H: Keeper>(
 }
 
 // Serves it, and ticks by the machine's clock also while nothing comes.
-fn wait_for_input<T, H: Keeper>(
-    rt: &HostRuntime,
+fn wait_for_input<R, T, I, H: Keeper>(
+    rt: &R,
     threads: &T,
     craft: &mut Spacecraft,
     words: &SpacecraftWords<'_>,
     keeper: &mut H,
+    input: I,
 ) -> Result<Status, Failure>
 where
+    R: PlainMachine,
     T: Threads + Wait + Clock + Copy + Drop + Send + 'static,
+    I: Read + Drop + Send + 'static,
     requires idle { IsIdle craft.old }
     requires kept { IsKeptAs (H.kept keeper.old) craft.old }
 {
     let mut clock = Ticker::new(rt, words.tick)?;
-    let source = open_input(rt, STANDARD)?;
+    let source = FromStd::new(input);
     let mut inbox = Inbox::begin(rt, threads, source, words.resync, clock)?;
     let mut out = output(rt)?;
     let pace = pace_of(words);
@@ -151,8 +162,8 @@ where
 
 // Serves what comes through a pipe, and writes to another. What is no packet was damaged on the
 // link, so it isn't told.
-fn serve_pipes<T, H: Keeper>(
-    rt: &HostRuntime,
+fn serve_pipes<R, T, H: Keeper>(
+    rt: &R,
     threads: &T,
     craft: &mut Spacecraft,
     words: &SpacecraftWords<'_>,
@@ -160,6 +171,7 @@ fn serve_pipes<T, H: Keeper>(
     pipes: (PipeReader<T>, PipeWriter<T>),
 ) -> Result<Status, Failure>
 where
+    R: PlainMachine,
     T: Threads + Wait + Clock + Copy + Drop + Send + 'static,
     requires idle { IsIdle craft.old }
     requires kept { IsKeptAs (H.kept keeper.old) craft.old }

@@ -175,7 +175,7 @@ pub fn octets_from<R: Machine>(
         }
         match end {
             End::Whole => break,
-            End::Failed => return Err(read_failure(rt, source, path)),
+            End::Failed => return Err(read_failure(rt, source.inner(), path)),
             End::TooLong => {}
         }
     }
@@ -183,19 +183,13 @@ pub fn octets_from<R: Machine>(
 }
 
 /// Why what is read at this path failed.
-pub fn read_failure<R: Machine>(rt: &R, source: &Incoming<R>, path: &str) -> Failure {
-    match source.inner().error() {
-        Some(error) => {
-            let name = name_of(path);
-            let place = format!(in rt.alloc(); "{name}: {error}");
-            Failure::at(Fault::Read, place)
-        }
-        None => {
-            let name = name_of(path);
-            let place = format!(in rt.alloc(); "{name}: its places go past 18446744073709551615");
-            Failure::at(Fault::Read, place)
-        }
-    }
+pub fn read_failure<I>(rt: &impl AllocGlobal, input: &Watched<I>, path: &str) -> Failure {
+    let name = name_of(path);
+    let place = match input.error() {
+        Some(error) => format!(in rt.alloc(); "{name}: {error}"),
+        None => format!(in rt.alloc(); "{name}: its places go past 18446744073709551615"),
+    };
+    Failure::at(Fault::Read, place)
 }
 
 /// Why the packets that are read at these paths failed, if a read did. Otherwise standard error is
@@ -250,6 +244,6 @@ fn packets_failure<R: Machine>(rt: &R, packets: &Packets<R>, paths: &[&str]) -> 
             let place = format!(in rt.alloc(); "{name}: {fault}");
             Failure::at(Fault::Read, place)
         }
-        None => read_failure(rt, captured.source(), path),
+        None => read_failure(rt, captured.source().inner(), path),
     }
 }

@@ -116,7 +116,7 @@ fn split_from<R: Machine>(
     let mut out = output(rt)?;
     let split = split_each(rt.alloc(), &wanted, source, &mut out);
     let failure = match split {
-        Err(StreamFault::Read) => Some(read_failure(rt, source, words.split.file)),
+        Err(StreamFault::Read) => Some(read_failure(rt, source.inner(), words.split.file)),
         _ => None,
     };
     first_failure(finish(rt, out), failure)?;

@@ -165,7 +165,7 @@ fn split_from<R: Machine>(
     let mut out = output(rt)?;
     let split = split_message(rt.alloc(), wanted, source, &mut out);
     let failure = match split {
-        Err(StreamFault::Read) => Some(read_failure(rt, source.source(), words.split.file)),
+        Err(StreamFault::Read) => Some(read_failure(rt, source.source().inner(), words.split.file)),
         _ => None,
     };
     first_failure(finish(rt, out), failure)?;

@@ -193,7 +193,7 @@ fn text_of<R: Machine>(rt: &R, source: &mut Incoming<R>) -> Result<Vec<u8>, Fail
     let (text, end) = read_text(rt.alloc(), source)?;
     match end {
         End::Whole => Ok(text),
-        End::Failed => Err(read_failure(rt, source, STANDARD)),
+        End::Failed => Err(read_failure(rt, source.inner(), STANDARD)),
         End::TooLong => {
             let place = format!(in rt.alloc(); "standard input: more than {LONGEST_TEXT} octets");
             Err(Failure::at(Fault::Read, place))
