@@ -94,7 +94,7 @@ complete -c lpt -n '__lpt_at chart' -l refused -d 'Draw refused lines too; not w
 complete -c lpt -n '__lpt_at chart' -l layout -r -F -d "A TOML file with the mission's layouts of headers and parts; only with --stream"
 complete -c lpt -n '__lpt_at list; or __lpt_at verify' -l json -d 'Print each line as a JSON object'
 complete -c lpt -n '__lpt_at verify' -l open -d 'Write the packets of requests that no report settles, in place of the list'
-complete -c lpt -n '__lpt_at decode' -l more -d 'Also print the areas of a request or report, and which segment a packet is'
+complete -c lpt -n '__lpt_at decode' -l more -d 'Also print how many areas a request or report has, the first of them, and which segment a packet is'
 complete -c lpt -n '__lpt_at decode; or __lpt_at list; or __lpt_at split; or __lpt_at join; or __lpt_at extract; or __lpt_at link; or __lpt_at verify; or __lpt_at compare; or __lpt_at request load; or __lpt_at request dump; or __lpt_at request check' -l layout -r -F -d "A TOML file with the mission's layouts of headers and parts"
 complete -c lpt -n '__lpt_at list' -l strict -d 'Stop at damage, or octets that are no packet'
 for command in list join

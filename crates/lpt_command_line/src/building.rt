@@ -34,9 +34,9 @@ Examples:
 
 Statuses:
   0  everything was done
-  1  something was refused, failed, differs, is open or isn't whole, nothing was found,
-     or octets are no packet (chart, pass, ground --resync, list unless --strict, and
-     join if packets have a checksum, skip them)
+  1  something was refused, failed, differs, is open or isn't whole, nothing was found
+     (but by list), or octets are no packet (chart, pass, ground --resync, list unless
+     --strict, and join if packets have a checksum, skip them)
   2  the command line, a line of the script (lint and shell: 1), HEX, the configuration,
      a layout or a list of patches can't be read
   3  a file can't be read or written, or is in use or of another job, memory ran out,

@@ -36,8 +36,8 @@ const WAIT: NamedRow = NamedRow {
     behind: &["MS"],
     action: ArgAction::Set,
     other: &["1000"],
-    help: "Send open requests again if nothing came for MS milliseconds: more than a round trip, \
-           and than the spacecraft needs for a round",
+    help: "Send open requests again if nothing came for MS milliseconds. Give more than a round \
+           trip, and more than the spacecraft needs for a round",
 };
 
 const SHORT_WAIT: NamedRow = NamedRow {
@@ -57,7 +57,7 @@ const TRIES: NamedRow = NamedRow {
 const LOAD_TRIES: NamedRow = NamedRow {
     other: &[],
     help: "Give up after N waits in a row that settled nothing \
-           [default: 10; if --large sends parts, as many as it has rounds]",
+           [default: 10; if --large sends parts, as many as there are rounds]",
     ..TRIES
 };
 

@@ -24,7 +24,8 @@ pub(crate) const MORE: NamedRow = NamedRow {
     behind: &[],
     action: ArgAction::SetTrue,
     other: &[],
-    help: "Also print the areas of a request or report, and which segment a packet is",
+    help: "Also print how many areas a request or report has, the first of them, and which \
+           segment a packet is",
 };
 
 /// What `decode` asks for.

@@ -6,7 +6,8 @@
 //!
 //! A new command is a row in `src/commands.rt`, which `src/building.rt` adds; a case of `Command`
 //! in `src/command_line.rt`, with a line in `command_of`, and a function which makes that case of
-//! the words that were read; and a line in `do_command` of `lpt/src/main.rt`, which does the work.
+//! the words that were read; and a line in `do_command` or `do_on_packets` of `lpt/src/main.rt`,
+//! which does the work.
 #![tactic(auto)]
 
 mod asking;
