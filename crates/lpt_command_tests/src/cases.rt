@@ -3,11 +3,13 @@
 use crate::commands::status_of;
 use crate::content::Content;
 use crate::machine::Desk;
+use crate::standard::OutputSize;
 use std::alloc::{AllocError, Global};
 use std::io;
 use std::process::Abort;
-use std::sync::Wait;
+use std::sync::{Arc, Wait};
 use std::thread::Threads;
+use std::time::Clock;
 
 /// Files by their paths, with their octets.
 pub(crate) type Files = &'static [(&'static str, &'static [u8])];
@@ -17,10 +19,12 @@ pub(crate) type Files = &'static [(&'static str, &'static [u8])];
 pub(crate) struct Case {
     /// Its words behind the program's name, with a space between two.
     pub(crate) words: &'static str,
-    /// The files before, which it leaves as they are.
+    /// The files before, which it leaves as they are, but for those that it makes anew.
     pub(crate) files: Files,
-    /// What comes on standard input.
+    /// What comes on standard input at once.
     pub(crate) input: &'static [u8],
+    /// What comes there then, if it is an end of a pass that reads it.
+    pub(crate) answers: &'static [Answer],
     pub(crate) trouble: Trouble,
     /// The status by which the program ends.
     pub(crate) status: u8,
@@ -37,12 +41,27 @@ pub(crate) const NOTHING: Case = Case {
     words: "",
     files: &[],
     input: &[],
+    answers: &[],
     trouble: Trouble::None,
     status: 0,
     made: &[],
     output: Printed::Whole(&[]),
     errors: "",
 };
+
+/// What comes on standard input once so many octets stand on standard output.
+#[derive(Clone, Copy)]
+pub(crate) struct Answer {
+    pub(crate) behind: usize,
+    pub(crate) octets: &'static [u8],
+}
+
+/// What comes on standard input.
+#[derive(Clone, Copy)]
+pub(crate) struct Inflow {
+    pub(crate) input: &'static [u8],
+    pub(crate) answers: &'static [Answer],
+}
 
 /// What fails on a machine.
 #[derive(Clone, Copy)]
@@ -52,6 +71,10 @@ pub(crate) enum Trouble {
     Room(usize),
     /// No read of a file succeeds from this octet on.
     Unreadable(usize),
+    /// Another process has the lock of each file.
+    Locked,
+    /// No read succeeds behind what comes on standard input at once, if an end of a pass reads it.
+    Deaf,
 }
 
 /// What is written to standard output.
@@ -64,7 +87,7 @@ pub(crate) enum Printed {
 }
 
 /// Has these commands done, each on a machine of its own, and compares what they leave.
-pub(crate) fn do_cases<T: Threads + Wait + Sync>(
+pub(crate) fn do_cases<T: Threads + Wait + Clock + Copy + Drop + Send + Sync + 'static>(
     rt: &impl Abort,
     threads: &T,
     alloc: Global,
@@ -76,7 +99,7 @@ pub(crate) fn do_cases<T: Threads + Wait + Sync>(
 }
 
 // Has the command of a case done. The only error is out of memory.
-fn do_case<T: Threads + Wait + Sync>(
+fn do_case<T: Threads + Wait + Clock + Copy + Drop + Send + Sync + 'static>(
     rt: &impl Abort,
     threads: &T,
     alloc: Global,
@@ -89,15 +112,20 @@ fn do_case<T: Threads + Wait + Sync>(
 }
 
 // The same, where these are the program's words.
-fn end_case<T: Threads + Wait + Sync>(
+fn end_case<T: Threads + Wait + Clock + Copy + Drop + Send + Sync + 'static>(
     rt: &impl Abort,
     threads: &T,
     alloc: Global,
     case: &Case,
     words: &[String],
 ) -> io::Result<()> {
-    let desk = Desk::new(alloc, content_of(alloc, case)?);
-    let status = status_of(threads, &desk, case.input, words);
+    let output_size = Arc::new(alloc, OutputSize::new())?;
+    let desk = Desk::new(alloc, content_of(alloc, case)?, output_size);
+    let inflow = Inflow {
+        input: case.input,
+        answers: case.answers,
+    };
+    let status = status_of(threads, &desk, inflow, words);
     let content = desk.into_content();
     check_case(rt, case, status, &content);
     drop(content);
@@ -124,6 +152,8 @@ fn content_of(alloc: Global, case: &Case) -> io::Result<Content> {
         Trouble::None => {}
         Trouble::Room(octets) => content.leave_room(octets),
         Trouble::Unreadable(at) => content.break_reads(at),
+        Trouble::Locked => content.lock_all(),
+        Trouble::Deaf => content.break_input(),
     }
     Ok(content)
 }
@@ -137,7 +167,11 @@ fn check_case(rt: &impl Abort, case: &Case, status: u8, content: &Content) {
         Printed::Having(pieces) => check_pieces(rt, words, pieces, content.output()),
     }
     assert_eq!(rt; status, case.status, "{words}");
-    for (path, octets) in case.files.iter().chain(case.made.iter()) {
+    for (path, octets) in case.files {
+        let stays = is_among(case.made, path) || content.octets_at(path) == *octets;
+        assert!(rt; stays, "{words}: {path}");
+    }
+    for (path, octets) in case.made {
         assert_eq!(rt; content.octets_at(path), *octets, "{words}: {path}");
     }
     assert!(rt;
@@ -152,4 +186,9 @@ fn check_pieces(rt: &impl Abort, words: &str, pieces: &[&str], text: &[u8]) {
     for piece in pieces {
         assert!(rt; text.contains(*piece), "{words}: {piece}");
     }
+}
+
+/// Whether there is one at this path.
+pub(crate) fn is_among(files: Files, path: &str) -> bool {
+    files.iter().any(|(other, _)| *other == path)
 }

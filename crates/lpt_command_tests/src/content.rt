@@ -3,7 +3,7 @@
 ghost use Rattle.std.specs.Prelude.{◌≤◌, IfOk, length};
 ghost use Rattle.std.specs.Io.{ReadsAtMost, WritesAtMost};
 
-use crate::cases::Files;
+use crate::cases::{Files, is_among};
 use std::alloc::Global;
 use std::io::{self, ErrorKind, Read};
 
@@ -27,6 +27,10 @@ pub(crate) struct Content {
     room: usize,
     // From which octet of a file on no read succeeds.
     broken_at: usize,
+    // Whether another process has the lock of each file.
+    is_locked: bool,
+    // Whether reads of standard input fail.
+    is_deaf: bool,
 }
 
 impl Content {
@@ -40,6 +44,8 @@ impl Content {
             errors: Vec::new(alloc),
             room: usize::MAX,
             broken_at: usize::MAX,
+            is_locked: false,
+            is_deaf: false,
         }
     }
 
@@ -51,6 +57,26 @@ impl Content {
     /// Has reads fail from this octet of a file on.
     pub(crate) fn break_reads(&mut self, at: usize) {
         self.broken_at = at;
+    }
+
+    /// Has another process hold the lock of each file.
+    pub(crate) fn lock_all(&mut self) {
+        self.is_locked = true;
+    }
+
+    /// Whether another process has the lock of each file.
+    pub(crate) fn is_locked(&self) -> bool {
+        self.is_locked
+    }
+
+    /// Has reads of standard input fail.
+    pub(crate) fn break_input(&mut self) {
+        self.is_deaf = true;
+    }
+
+    /// Whether reads of standard input fail.
+    pub(crate) fn is_deaf(&self) -> bool {
+        self.is_deaf
     }
 
     /// The number of the file at this path.
@@ -131,6 +157,20 @@ impl Content {
         let taken = self.fitting(octets)?;
         self.output.extend_from_slice(taken)?;
         Ok(taken.len())
+    }
+
+    /// Leaves the file of this number so many octets, and says whether it had them.
+    pub(crate) fn cut(&mut self, number: usize, size: u64) -> bool {
+        let Some(file) = self.files.get_mut(number) else {
+            return false;
+        };
+        match usize::try_from(size) {
+            Ok(size) if size <= file.octets.len() => {
+                file.octets.truncate(size);
+                true
+            }
+            _ => false,
+        }
     }
 
     // Those of these octets for which there is room.
@@ -214,13 +254,45 @@ impl Content {
     }
 
     /// Whether its files are at the paths of these, in the order in which they were made, the
-    /// first ones before the others.
+    /// first ones before the others, but for those that are among these too.
     pub(crate) fn has_files(&self, first: Files, others: Files) -> bool {
-        let paths = self.files.iter().filter_map(|file| file.path.as_ref());
-        let wanted = first.iter().chain(others.iter());
-        paths
-            .map(|path| path.as_str())
-            .eq(wanted.map(|(path, _)| *path))
+        let mut place = 0;
+        for (path, _) in first {
+            if !is_among(others, path) {
+                match self.place_behind(place, path) {
+                    Some(behind) => place = behind,
+                    None => return false,
+                }
+            }
+        }
+        for (path, _) in others {
+            match self.place_behind(place, path) {
+                Some(behind) => place = behind,
+                None => return false,
+            }
+        }
+        self.next_file(place).is_none()
+    }
+
+    // The place behind the next file from this place on, if that is at this path.
+    fn place_behind(&self, place: usize, path: &str) -> Option<usize> {
+        let (at, found) = self.next_file(place)?;
+        if found == path {
+            Some(at.saturating_add(1))
+        } else {
+            None
+        }
+    }
+
+    // The next file from this place on: its place, and its path.
+    fn next_file(&self, place: usize) -> Option<(usize, &str)> {
+        for (at, file) in self.files.iter().enumerate() {
+            match &file.path {
+                Some(path) if place <= at => return Some((at, path.as_str())),
+                _ => {}
+            }
+        }
+        None
     }
 
     /// What was written to standard output.

@@ -1,85 +1,87 @@
 //! A machine in memory, on which commands run.
 
+use crate::cases::Inflow;
 use crate::content::Content;
+use crate::standard::{OutputSize, Standard};
+use lpt_end_commands::{EndMachine, LastingFiles};
+use lpt_io::{Failure, write_beside};
 use std::alloc::{Allocator, Global};
-use std::cell::Cell;
 use std::fmt::Display;
-use std::fs::{Metadata, OpenFile, OpenOptions};
+use std::fs::{Metadata, OpenFile, OpenOptions, TryLockError};
 use std::io::{self, BufRead, ErrorKind, Input, Lines, Read, Seek, SeekFrom, Write};
 use std::path::PathBuf;
 use std::rt::{Clock, Files};
+use std::sync::{Arc, Mutex, Wait};
 use std::time::Duration;
 
-/// What a machine holds, while it is lent to commands.
+/// What a machine holds, while it is lent to commands, also to several threads of one.
 #[derive(Drop)]
 pub(crate) struct Desk {
     alloc: Global,
-    content: Cell<Content>,
+    content: Mutex<Content>,
+    output_size: Arc<OutputSize>,
 }
 
 impl Desk {
-    /// A machine that holds this.
-    pub(crate) fn new(alloc: Global, content: Content) -> Desk {
+    /// A machine that holds this, and has so much on its standard output.
+    pub(crate) fn new(alloc: Global, content: Content, output_size: Arc<OutputSize>) -> Desk {
         Desk {
             alloc,
-            content: Cell::new(content),
+            content: Mutex::new(content),
+            output_size,
         }
     }
 
     /// What it holds.
     pub(crate) fn into_content(self) -> Content {
-        let Desk { content, .. } = self;
+        let Desk {
+            content,
+            output_size,
+            ..
+        } = self;
+        drop(output_size);
         content.into_inner()
     }
 }
 
-/// A machine in memory, with what comes on its standard input.
+/// A machine in memory, with what comes on its standard input, in the hands of a thread that can
+/// wait for others.
 #[derive(Clone, Copy)]
-pub(crate) struct InMemory<'a> {
+pub(crate) struct InMemory<'a, T: Wait> {
     pub(crate) desk: &'a Desk,
-    pub(crate) input: &'a [u8],
+    pub(crate) waits: &'a T,
+    pub(crate) inflow: Inflow,
 }
 
 // A file of a machine in memory that was opened.
 #[derive(Drop)]
-pub(crate) struct Opened<'a> {
+pub(crate) struct Opened<'a, T: Wait> {
     desk: &'a Desk,
+    waits: &'a T,
     number: usize,
     at: usize,
-}
-
-impl Desk {
-    // Takes out what it holds.
-    fn take_content(&self) -> Content {
-        self.content.replace(Content::new(self.alloc))
-    }
-
-    // Puts it back.
-    fn put_back(&self, content: Content) {
-        self.content.set(content);
-    }
 }
 
 fn not_here() -> io::Error {
     io::Error::from(ErrorKind::Unsupported)
 }
 
-impl Read for Opened<'_> {
+impl<T: Wait> Read for Opened<'_, T> {
     fn read(&mut self, buf: &mut [u8]) -> io::Result<usize> {
-        let content = self.desk.take_content();
+        let content = self.desk.content.lock(self.waits);
         let count = content.read(self.number, self.at, buf);
-        self.desk.put_back(content);
+        drop(content);
         let count = count?;
         self.at = self.at.saturating_add(count);
         Ok(count)
     }
 }
 
-impl Write for Opened<'_> {
+impl<T: Wait> Write for Opened<'_, T> {
     fn write(&mut self, buf: &[u8]) -> io::Result<usize> {
-        let mut content = self.desk.take_content();
+        let mut content = self.desk.content.lock(self.waits);
         let count = content.append(self.number, buf);
-        self.desk.put_back(content);
+        drop(content);
         count
     }
 
@@ -88,22 +90,25 @@ impl Write for Opened<'_> {
     }
 }
 
-impl Seek for Opened<'_> {
+impl<T: Wait> Seek for Opened<'_, T> {
     fn seek(&mut self, _to: SeekFrom) -> io::Result<u64> {
         Err(not_here())
     }
 }
 
-impl OpenFile for Opened<'_> {
+impl<T: Wait> OpenFile for Opened<'_, T> {
     fn metadata(&self) -> io::Result<Metadata> {
-        let content = self.desk.take_content();
+        let content = self.desk.content.lock(self.waits);
         let len = content.octets_of(self.number).len() as u64;
-        self.desk.put_back(content);
+        drop(content);
         Ok(Metadata::of_file(len))
     }
 
-    fn set_len(&self, _size: u64) -> io::Result<()> {
-        Err(not_here())
+    fn set_len(&self, size: u64) -> io::Result<()> {
+        let mut content = self.desk.content.lock(self.waits);
+        let was_cut = content.cut(self.number, size);
+        drop(content);
+        if was_cut { Ok(()) } else { Err(not_here()) }
     }
 
     fn sync_all(&self) -> io::Result<()> {
@@ -115,14 +120,14 @@ impl OpenFile for Opened<'_> {
     }
 }
 
-impl<'a> Files for InMemory<'a> {
-    type File = Opened<'a>;
+impl<'a, T: Wait> Files for InMemory<'a, T> {
+    type File = Opened<'a, T>;
 
     type Dir = &'a [u8];
 
-    fn open_file(&self, how: &OpenOptions, path: &str) -> io::Result<Opened<'a>> {
+    fn open_file(&self, how: &OpenOptions, path: &str) -> io::Result<Opened<'a, T>> {
         how.check()?;
-        let mut content = self.desk.take_content();
+        let mut content = self.desk.content.lock(self.waits);
         let number = if how.asks_write() {
             content.new_file(path)
         } else {
@@ -130,9 +135,10 @@ impl<'a> Files for InMemory<'a> {
                 .number_of(path)
                 .ok_or(io::Error::from(ErrorKind::NotFound))
         };
-        self.desk.put_back(content);
+        drop(content);
         Ok(Opened {
             desk: self.desk,
+            waits: self.waits,
             number: number?,
             at: 0,
         })
@@ -143,13 +149,13 @@ impl<'a> Files for InMemory<'a> {
     }
 
     fn metadata(&self, path: &str) -> io::Result<Metadata> {
-        let content = self.desk.take_content();
+        let content = self.desk.content.lock(self.waits);
         let known = match content.number_of(path) {
             Some(number) => Ok(Metadata::of_file(content.octets_of(number).len() as u64)),
             None if content.has_folder(path) => Ok(Metadata::of_dir()),
             None => Err(io::Error::from(ErrorKind::NotFound)),
         };
-        self.desk.put_back(content);
+        drop(content);
         known
     }
 
@@ -162,16 +168,16 @@ impl<'a> Files for InMemory<'a> {
     }
 
     fn rename(&self, from: &str, to: &str) -> io::Result<()> {
-        let mut content = self.desk.take_content();
+        let mut content = self.desk.content.lock(self.waits);
         let renamed = content.rename(from, to);
-        self.desk.put_back(content);
+        drop(content);
         renamed
     }
 
     fn remove_file(&self, path: &str) -> io::Result<()> {
-        let mut content = self.desk.take_content();
+        let mut content = self.desk.content.lock(self.waits);
         let was_there = content.forget(path);
-        self.desk.put_back(content);
+        drop(content);
         if was_there {
             Ok(())
         } else {
@@ -180,9 +186,9 @@ impl<'a> Files for InMemory<'a> {
     }
 
     fn create_dir(&self, path: &str) -> io::Result<()> {
-        let mut content = self.desk.take_content();
+        let mut content = self.desk.content.lock(self.waits);
         let created = content.make_folder(path);
-        self.desk.put_back(content);
+        drop(content);
         created
     }
 
@@ -200,24 +206,24 @@ impl<'a> Files for InMemory<'a> {
     }
 }
 
-impl<'a> Input for InMemory<'a> {
-    type Reader = &'a [u8];
+impl<T: Wait> Input for InMemory<'_, T> {
+    type Reader = &'static [u8];
 
     fn read_line<A: Allocator + Clone>(&self, buf: &mut String<A>) -> io::Result<usize> {
-        let mut reader = self.input;
+        let mut reader = self.inflow.input;
         reader.read_line(buf)
     }
 
-    fn lines<A: Allocator>(&self, alloc: A) -> Lines<&'a [u8], A> {
-        self.input.lines(alloc)
+    fn lines<A: Allocator>(&self, alloc: A) -> Lines<&'static [u8], A> {
+        self.inflow.input.lines(alloc)
     }
 
-    fn reader(&self) -> &'a [u8] {
-        self.input
+    fn reader(&self) -> &'static [u8] {
+        self.inflow.input
     }
 }
 
-impl Print for InMemory<'_> {
+impl<T: Wait> Print for InMemory<'_, T> {
     fn print<D: Display + Drop>(&self, value: D) -> io::Result<()> {
         let text = format!(in self.desk.alloc; "{value}")?;
         self.write_all(text.as_bytes())
@@ -236,19 +242,21 @@ impl Print for InMemory<'_> {
     }
 
     fn write_some(&self, bytes: &[u8]) -> io::Result<usize> {
-        let mut content = self.desk.take_content();
+        let mut content = self.desk.content.lock(self.waits);
         let count = content.print(bytes);
-        self.desk.put_back(content);
-        count
+        drop(content);
+        let count = count?;
+        self.desk.output_size.grow(self.waits, count);
+        Ok(count)
     }
 }
 
-impl Eprint for InMemory<'_> {
+impl<T: Wait> Eprint for InMemory<'_, T> {
     fn eprint<D: Display + Drop>(&self, value: D) -> io::Result<()> {
         let text = format!(in self.desk.alloc; "{value}")?;
-        let mut content = self.desk.take_content();
+        let mut content = self.desk.content.lock(self.waits);
         let put = content.tell(text.as_bytes());
-        self.desk.put_back(content);
+        drop(content);
         put
     }
 
@@ -259,7 +267,7 @@ impl Eprint for InMemory<'_> {
 }
 
 // Its clocks stand still.
-impl Clock for InMemory<'_> {
+impl<T: Wait> Clock for InMemory<'_, T> {
     fn monotonic(&self) -> io::Result<Duration> {
         Ok(Duration::from_secs(7))
     }
@@ -269,10 +277,44 @@ impl Clock for InMemory<'_> {
     }
 }
 
-impl Alloc for InMemory<'_> {
+impl<T: Wait> Alloc for InMemory<'_, T> {
     type A = Global;
 
     fn alloc(&self) -> Global {
         self.desk.alloc
+    }
+}
+
+impl<T: Wait> LastingFiles for InMemory<'_, T> {
+    fn write_for_good(&self, path: &str, octets: &[u8]) -> Result<(), Failure> {
+        write_beside(self, path, octets)
+    }
+}
+
+impl<'a, T: Wait + Copy + Drop + Send + 'static> EndMachine for InMemory<'a, T> {
+    type Standard = Standard<T>;
+
+    fn standard_input(&self) -> Standard<T> {
+        let content = self.desk.content.lock(self.waits);
+        let is_deaf = content.is_deaf();
+        drop(content);
+        Standard {
+            waits: *self.waits,
+            size: Arc::try_clone(&self.desk.output_size).ok(),
+            ready: self.inflow.input,
+            answers: self.inflow.answers,
+            is_deaf,
+        }
+    }
+
+    fn try_lock(&self, _file: &Opened<'a, T>) -> Result<(), TryLockError> {
+        let content = self.desk.content.lock(self.waits);
+        let is_locked = content.is_locked();
+        drop(content);
+        if is_locked {
+            Err(TryLockError::WouldBlock)
+        } else {
+            Ok(())
+        }
     }
 }
