@@ -13,11 +13,11 @@ The modules:
 
 - packets: packets, telecommands and telemetry, and the packets of a stream
 - parts: the parts of large messages, and `split`
-- archive: the packets of an archive as they come, by any layout, and its messages, the images of
-  memories and the outcomes of requests
-- joining: `join`, and `join_each` of an archive
-- images: `read_image` of an archive's dump reports
-- distributed: the same for many files, on the workers of Dask
+- archive: `Archive` reads an archive by any layout: its packets as they come, its messages, images of
+  memories, or the outcomes of requests
+- joining: `join` and `join_each`, which join the parts in an archive
+- images: `read_image`, which puts dump reports together
+- distributed: `join_each` and `read_image` for many files, on the workers of Dask
 - memory: requests to load, dump and check a memory, and their reports
 - reports: verification reports
 - end: one end of a link, with a spacecraft's memories
@@ -26,8 +26,9 @@ The modules:
 - faults: an exception for each fault
 
 Octets are any object with a buffer: `bytes`, `bytearray`, `memoryview`, an array or a mapped file.
-`read_packet` and its like return views if they get a `memoryview`, otherwise copies. Numbers out of
-their range raise `faults.Range`, and arguments of another type TypeError.
+`read_packet` and the other functions `read_..` return views if they get a `memoryview`, otherwise
+copies (`read_image` always copies). Numbers out of their range raise `faults.Range`, and arguments of
+another type TypeError.
 
 The package looks for the libraries in the folder that FORGESILVER_LIB names. If that isn't set, it
 looks beside its own files, where ./install puts them, and in `build` of the checkout. `liblpt` must

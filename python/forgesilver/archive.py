@@ -38,13 +38,13 @@ class Listed:
     """An item of an archive: a packet, an idle one, octets that fail a test, or its end.
 
     - place: how many octets are in front of it
-    - stray: how many of them, right in front of it, are no packet
+    - stray: how many of these octets, right in front of it, are no packet
     - octets: the whole item, with headers and checksum; `body` begins behind the secondary header
-    - fault: the first test that it fails, if it is FAULTY: it is damaged, or it is a sound packet
-      that isn't one of the layout (a segment, or one without a secondary header). Only with
-      `PusVersion` and `ShortHeader` it has `packet` and `apid`; otherwise these are None and 0.
-      `to_dict` has the primary header of each packet with a right checksum, and of each segment,
-      also a damaged one
+    - fault: if it is FAULTY, the first test that it fails. Such an item is damaged, or it is a sound
+      packet that isn't one of the layout (a segment, or one without a secondary header). If the
+      fault is `PusVersion` or `ShortHeader`, `packet` and `apid` are those of its header; otherwise
+      they are None and 0. `to_dict` has the primary header of each packet with a right checksum, and
+      of each segment, also of a damaged one
     - flags: a telecommand's acknowledgement flags, telemetry's time reference status
     - user: the source ID of a telecommand, the destination ID of telemetry, 0 if there is none
     - part: which part it carries, with `id`, `number` and `part_octets`
@@ -140,8 +140,8 @@ class Missing:
     - place: how many octets are in front of the first packet with a part of it; None if that isn't
       known
     - parts: the missing parts, as the program's `--parts` takes them: `2,4,12-`
-    - fault: why the message isn't fit: it is no packet of its direction, or, without checksums, its
-      parts may be those of several messages (`Unsure`). Then no part is missing
+    - fault: why a message of which no part is missing was left out: it is no packet of its direction,
+      or, without checksums, its parts may be those of several messages (`Unsure`)
     """
 
     direction: Direction
@@ -195,7 +195,8 @@ class Archive(Handle):
         - part_size: without a layout, 4 to 1,024; a layout's text has its own, and an empty text reads
           the profile's packets with parts of any size
 
-        Raises `Range`, `faults.Layout` (`lpt list --layout` says what is wrong, and where), `Allocation`, or what opening the file raises.
+        Raises `Range`, `faults.Layout` (`lpt list --layout` says what is wrong, and where),
+        `Allocation`, or what opening the file raises.
         """
         super().__init__()
         if layout is not None and not isinstance(layout, str):
@@ -233,9 +234,9 @@ class Archive(Handle):
 
     def close(self) -> None:
         """Frees all its memory, and closes the file that it opened."""
+        super().close()
         if self._is_own and self._file is not None:
             self._file.close()
-        super().close()
 
     def __iter__(self) -> Iterator[Listed]:
         return self
@@ -261,9 +262,10 @@ class Archive(Handle):
         [(7, 100)]
         []
 
-        At the end a `SkippedWarning` says which parts of this APID weren't read and, without
-        checksums, how many octets at the archive's end are no packet; nothing warns of another APID's
-        parts. Raises `Range`, `Allocation`, `faults.Empty`, and ValueError if something was read.
+        At the end a `SkippedWarning` says how many parts of this APID weren't read, and why. If packets
+        have no checksums, it also says how many octets at the archive's end are no packet. Nothing
+        warns of another APID's parts. Raises `Range`, `Allocation`, `faults.Empty`, and ValueError if
+        something was read.
         """
         direction, apid = Direction(direction), number(apid, 0xFFFF, "the APID")
         text = self._started(direction)
@@ -441,7 +443,7 @@ class Archive(Handle):
         if self._octets is not None:
             chunk, self._octets = self._octets[:_CHUNK], self._octets[_CHUNK:]
         else:
-            chunk = (reader_of(self._file)(_CHUNK) or b"") if self._file is not None else b""
+            chunk = self._read()
         given = Given(chunk)
         if given.len:
             self._done(_reader.lpt_reader_feed, given.at, given.len)
@@ -451,6 +453,18 @@ class Archive(Handle):
             beside.feed(chunk)
         elif beside is not None:
             beside.end()
+
+    def _read(self) -> bytes:
+        """The next octets of the file. While they are read no call of the archive is taken."""
+        chunks: list[bytes] = []
+
+        def read(_at: int) -> int:
+            if self._file is not None:
+                chunks.append(reader_of(self._file)(_CHUNK) or b"")
+            return 0
+
+        self._done(read)
+        return chunks[0] if chunks else b""
 
     def _date(self, item: Any) -> Optional[str]:
         """The date of what was told last."""

@@ -6,11 +6,12 @@
     for it in join_files(Client("tcp://scheduler:8786"), paths, part_size=512):
         ...
 
-What it gives is what `join_each` gives of all files, one after the other, in that order. The octets
-are cut into pieces of one size. Each piece is read alone: its packets are found as they would be
-after damage. The piece before it nearly always ends at one of these packets; from there on both
-readings are the same. If it doesn't, octets are read again from its end up to such a packet. The
-parts of a name all go to one of several partitions, which takes them in the order of the stream.
+`join_files` gives what `join_each` would give if it read the files one after the other, in that
+order. The octets are cut into pieces of one size. A worker that reads a piece doesn't know where its
+first packet begins, so it looks for packets as a reader does after damage. Nearly always the last
+packet of the piece before ends where the worker found a packet: from there on both readings are the
+same. If not, octets are read again from that end, up to a packet that both readings found. All parts
+of a name go to the same one of several partitions, which takes them in the order of the stream.
 
 Each task is a function of its arguments alone, so Dask does it again if a worker is lost. The
 workers read the files by the same paths, and must have this package.
@@ -150,11 +151,11 @@ def join_files(
     piece: int = PIECE,
     partitions: int = _PARTITIONS,
 ) -> Iterator[Joined]:
-    """What `join_each` gives of the octets of these files, one file after the other, in the same
-    order, and with the same exceptions and warnings.
+    """What `join_each` would give if it read these files one after the other: the same messages in the
+    same order, with the same exceptions and warnings.
 
     Pieces of `piece` octets are read in parallel. The names that came are kept in `partitions`
-    partitions; for each name at most five messages of the greatest length are in memory.
+    partitions. For each name at most five messages of the greatest length are in memory.
     """
     part_size = part_size_of(part_size)
     choice = choice_of(apid)

@@ -1,4 +1,4 @@
-"""One end of the link: it sends messages in parts, joins the parts that come, gives up receptions, and
+"""One end of the link: it sends messages in parts, joins the parts that come, ends receptions, and
 knows which names are in use. Two ends that keep to the rules of docs/C.md keep the README's promise."""
 
 from __future__ import annotations
@@ -100,7 +100,7 @@ class View:
     """What an end has to do, in numbers.
 
     - clock: in ticks
-    - is_due: whether `expire` has a reception to give up
+    - is_due: whether `expire` has a reception to end
     - next_due: the clock's value at which the first reception is due; None if none is open
     - outgoing: packets that wait to be sent
     - unread: requests that weren't read yet
@@ -150,7 +150,7 @@ class End(Handle):
 
     Only the thread that made an end may use it, and it can't be copied or pickled. A call raises the
     first fault that applies, and leaves the end as it was; on a closed end it raises `Empty`.
-    Arguments of another type raise TypeError.
+    Arguments of another type raise TypeError; what is no member of an enumeration raises ValueError.
     """
 
     __slots__ = ("config", "side", "_length", "_report")
@@ -163,15 +163,15 @@ class End(Handle):
         memories: Optional[Mapping[int, Octets]] = None,
         state: Optional[Octets] = None,
     ) -> None:
-        """Makes an end. The spacecraft's has these memories, which begin with these octets: 1 to
-        16, of 1 to 1,048,576 octets each. Ground's has none.
+        """Makes an end. `memories` are those of the spacecraft, 1 to 16: for each identifier the octets
+        with which the memory begins, 1 to 1,048,576. Ground has none.
 
         A new end is no restart of an old one: it doesn't know which names were used. So make the
         other end anew too, and let no older packet come.
 
-        With `state`, from `End.state`, an old end is restored, as after a restart and with nothing
-        to send. The clock is the state's; the timeout and the limits are this configuration's. Give
-        the saved memories too; their sizes aren't compared.
+        If you give `state`, which `End.state` returned, the old end is restored, as after a restart
+        and with nothing to send. The clock is that of the state. The timeout and the limits are
+        those of this configuration. Give the saved memories too; their sizes aren't compared.
 
         Raises `Range`, `ConfigApid` to `ConfigOutgoing`, `Memories` or `Allocation`; of a state also
         `StateShort` to `StateOrder`, or `NoNumber`.
@@ -219,9 +219,8 @@ class End(Handle):
         return self._copied(_end.lpt_end_released, Room(self._length))
 
     def expire(self) -> Optional[Name]:
-        """Gives up the reception that has waited longest without a part, if it is due by the
-        timeout, and returns its name; None if none is due. At a spacecraft a report of this waits
-        to be sent."""
+        """Ends the reception that has waited longest without a part, if it is due by the timeout, and
+        returns its name; None if none is due. At a spacecraft a report of this waits to be sent."""
         name = _library.LptName()
         fault = self._call(_end.lpt_end_expire, byref(name))
         if fault == _NOTHING_DUE:
@@ -230,9 +229,9 @@ class End(Handle):
         return Name(name.source, name.id)
 
     def give_up(self, name: Named) -> None:
-        """Gives up the open reception of a name before it is due, for example if its sender was reset.
-        Its name is closed until `retire`. At a spacecraft a report of this, with the reason of an
-        expiry, waits to be sent. Raises `NotOpen` or `Allocation`."""
+        """Ends the open reception of a name before it is due, for example if its sender was reset. The
+        name is closed until `retire`. At a spacecraft a report of this waits to be sent, with the same
+        reason as that of an expiry. Raises `NotOpen` or `Allocation`."""
         named = _c_name(name)
         self._done(_end.lpt_end_give_up, byref(named))
 
@@ -252,8 +251,8 @@ class End(Handle):
         self._done(_end.lpt_end_part, byref(named), its_number)
 
     def parts(self, name: Named, numbers: Optional[Iterable[int]] = None) -> Iterator[bytes]:
-        """Makes the packets of an open message's parts, all or those with these numbers, one by
-        one, and yields them as `outgoing` does, with the packets that wait. The message stays open
+        """Makes the packets of an open message's parts one by one: of all parts, or of those with these
+        numbers. Yields them as `outgoing` does, with the packets that wait. The message stays open
         until `finish`."""
         its_name = name_of(name)
         for it in range(1, 0x10000) if numbers is None else numbers:
@@ -433,9 +432,10 @@ class End(Handle):
         self._done(_end.lpt_end_tick_many, number(ticks, 0xFFFFFFFF, "the ticks"))
 
     def rebase(self, ticks: int) -> None:
-        """Sets the clock back by so many ticks. Each reception is still due after as many ticks as before.
-        So a clock never has to end. Raises `ClockStart`, and leaves the clock as it was, if it, or the
-        tick at which an open reception last got a part, would go below 0."""
+        """Sets the clock back by so many ticks, so that it never has to reach its greatest value. Each
+        reception is still due after as many ticks as before. If the clock, or the tick at which an
+        open reception last got a part, would go below 0, raises `ClockStart`, and leaves the clock as
+        it was."""
         self._done(_end.lpt_end_rebase, number(ticks, 0xFFFFFFFF, "the ticks"))
 
     def retire(self, direction: Direction, name: Named) -> None:
@@ -446,8 +446,8 @@ class End(Handle):
         self._done(_end.lpt_end_retire, int(Direction(direction)), byref(named))
 
     def name_state(self, direction: Direction, name: Named) -> NameState:
-        """The state of a transaction's name at this end: of a message in the direction in which the
-        end sends, of a reception in the other."""
+        """The state of a transaction's name at this end. In the direction in which the end sends, it is
+        that of a message; in the other direction, that of a reception."""
         named, state = _c_name(name), U32(0)
         self._done(_end.lpt_end_name, int(Direction(direction)), byref(named), byref(state))
         return NameState(state.value)
@@ -480,9 +480,10 @@ class End(Handle):
         ]
 
     def missing(self, name: Named, start: int = 1) -> Iterator[int]:
-        """The numbers of an open reception's missing parts, from this one on, one by one. They end
-        before the last part, or at 65,535 if that hasn't come. Raises `NotOpen`, also if the
-        reception ends meanwhile."""
+        """The numbers of an open reception's missing parts, from this one on, one by one. If the last
+        part has come, they end before it, otherwise at 65,535. Raises `NotOpen`, also if the
+        reception is released or ends meanwhile: if you feed parts in the loop, iterate over
+        `list(end.missing(name))`."""
         named, found = _c_name(name), U16(0)
         start = number(start, 0xFFFF, "the part's number")
         while start <= 0xFFFF:
@@ -517,9 +518,10 @@ class End(Handle):
     def state(self) -> bytes:
         """What outlasts the end's process, besides the memories: `End(.., state=..)` restores an
         end from it. Save it before you act on a call's result or send anything. At a spacecraft save
-        the memories with it, never between a release and its execution (`serve` says how). Then the
-        program may stop at any place, and the promise still holds. Under "Saving the state" docs/C.md
-        says after which calls you must save. It never raises `Allocation`."""
+        the memories with it, and never save between a release and its execution (`serve` says how).
+        If you keep to this, the program may stop at any place, and the promise still holds. Under
+        "Saving the state" docs/C.md says after which calls you must save. It never raises
+        `Allocation`."""
         return self._copied(_end.lpt_end_state, Room(45)) or b""
 
     @staticmethod

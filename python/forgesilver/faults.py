@@ -127,8 +127,7 @@ class LongLoad(Fault, ValueError):
 
 
 class BadArea(Fault, ValueError):
-    """A request of no area, of more than 255, or with an empty one; a job whose areas end behind the
-    last address, or, if it is a load, overlap."""
+    """The areas are none, more than 255, empty, past the last address, or overlap in a job of loads."""
 
     number = 28
 
@@ -346,8 +345,7 @@ class StateOrder(Fault, ValueError):
 
 
 class Elsewhere(Fault, ValueError):
-    """The memories are with the program, and the call is for those in the end; or the other way
-    round."""
+    """The memories are with the program and not in the end, as this call needs, or the other way."""
 
     number = 119
 

@@ -29,8 +29,10 @@ Call = Callable[..., int]
 class Passed:
     """A dump report that isn't read, or an area of one that isn't taken.
 
-    - place: how many octets stand in front of its packet, or of that with which it became whole
-    - why: `unread`; or `checksum` if that is wrong, `end` if the area ends past the last address
+    - place: how many octets stand in front of the report's packet; if the report came in parts, in
+      front of the packet with which it became whole
+    - why: `unread` for a report; for an area `checksum` if its checksum is wrong, or `end` if it ends
+      past the last address
     - start: the area's first address
     - length: how many octets the area has, or the report's body
     """
@@ -59,15 +61,15 @@ class Image:
     """The octets of a memory, as dump reports have them.
 
     - start: the address of the first octet
-    - octets: up to the last address that came, and none if none came; of areas that overlap the
+    - octets: those up to the last address that came, or none if none came; if areas overlap, the
       later one wins
     - missing: the addresses among these for which no octets came, as pairs of the first and the
       last; what is missing behind them isn't here
-    - passed_over: how many reports or areas weren't taken: they can't be read, have a wrong
-      checksum, or end past the last address; of `read_image` also how many reports in parts aren't
-      whole
+    - passed_over: how many reports or areas weren't taken, because they can't be read, have a wrong
+      checksum, or end past the last address; if `read_image` made the image, also how many reports
+      in parts aren't whole
 
-    Of `Archive.image` also:
+    If `Archive.image` made it, the image also has:
 
     - passed: one entry for each that `passed_over` counts
     - of_memories, of_apids: the reports of other memories, and the reports and parts of other APIDs
@@ -92,10 +94,14 @@ class Image:
 
     @property
     def is_clean(self) -> bool:
-        """Whether octets came, none among them is missing, the archive has no damaged packets and no
-        octets between packets, no report or part was passed over, and no report in parts stayed
-        incomplete (`lost`). Reports of other memories and APIDs don't count. Of an image by `read_image`
-        this says nothing about damaged packets, octets between packets, or parts that aren't read."""
+        """Whether all of these hold:
+
+        - octets came, and none among them is missing
+        - the archive has no damaged packets and no octets between packets
+        - no report or part was passed over, and no report in parts stayed incomplete (`lost`)
+
+        Reports of other memories and APIDs don't count. If `read_image` made the image, this says
+        nothing about damaged packets, octets between packets, or parts that aren't read."""
         passed = self.passed_over or self.parts.count or self.damaged or self.stray or self.lost
         return bool(self.octets) and not self.missing and not passed
 

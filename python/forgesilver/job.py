@@ -1,6 +1,6 @@
-"""A job of ground: a load, a dump or a check of a memory. Its requests are sent again, in rounds, until
-a report settles each, that is, says that it completed or failed. docs/C.md says what is proved about a
-job that ended as COMPLETED."""
+"""A job of ground: a load, a dump or a check of a memory. The job repeats its requests, in rounds, until
+a report settles each of them, that is, says that the request completed or failed. docs/C.md says what
+is proved about a job that ended as COMPLETED."""
 
 from __future__ import annotations
 
@@ -36,8 +36,9 @@ class Progress:
 
 @dataclass(frozen=True)
 class Fate:
-    """What became of a request. `code` is why it failed, a `Failure` or another number; None if it didn't
-    fail, or its report has no code of 16 bits or is of progress (TM[1,6])."""
+    """What became of a request. `code` is why it failed, a `Failure` or another number. It is None if
+    the request didn't fail, if the report of its failure has no code of 16 bits, or if that report is
+    of progress (TM[1,6])."""
 
     state: FateState
     code: Union[Failure, int, None] = None
@@ -73,7 +74,7 @@ class Job(Handle):
         - source: the job's own, 0 to 65,535: reports go to it, and no job before had it
         - part_size: of the link, 4 to 1,024, of a dump 7 to 1,024, of a check 6 to 1,024
         - count: the first request's sequence count, 0 to 16,383
-        - tries: after so many waits in a row that settled nothing it is given up, at least 1
+        - tries: after so many waits in a row that settled nothing the job is given up, at least 1
         - starts: whether a report of the start settles a load too
 
         Raises `Range`, `BadArea`, `LongJob` or `Allocation`.
@@ -139,8 +140,8 @@ class Job(Handle):
         self._done(_ground.lpt_ground_packet, given.at, given.len)
 
     def quiet(self) -> None:
-        """Notes that no packet came for as long as the program waits: a new round begins, or, after
-        `tries` such waits in a row that settled nothing, the job is given up."""
+        """Notes that no packet came for as long as the program waits. Then a new round begins; but if
+        this was the last of `tries` waits in a row that settled nothing, the job is given up."""
         self._done(_ground.lpt_ground_quiet)
 
     def cut_off(self) -> None:
@@ -198,7 +199,8 @@ class Job(Handle):
     def agrees(self, octets: Octets) -> bool:
         """Whether a check got the checksums of these octets, its areas' octets one after the other.
         A checksum has 16 bits, so about one differing area in 65,536 is taken for the same. Damage
-        inside one loaded area that passed its packet's checksum is too: both are one linear CRC."""
+        inside one loaded area that passed its packet's checksum is always taken for the same, because
+        both checksums are the same linear CRC."""
         given, told = Given(octets), U32(0)
         self._done(_ground.lpt_ground_agrees, given.at, given.len, byref(told))
         return bool(told.value)

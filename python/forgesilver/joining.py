@@ -60,8 +60,9 @@ class NotJoined(ValueError):
 
 
 class SkippedWarning(UserWarning):
-    """Parts were skipped: they have another size or, if no APID was given, another APID than the first
-    part. Or octets were skipped, because packets have no checksum."""
+    """Parts were skipped, because they have another size or, if no APID was given, another APID than the
+    first part. Or, if packets have no checksum, octets at an archive's end were skipped, because they
+    are no packet."""
 
 
 def join(
@@ -76,10 +77,10 @@ def join(
     """The one message whose parts these packets carry, in any order, with repeats, and among other
     packets.
 
-    With a name, a direction or an APID only packets with these count; by default the APID is that of
-    the first packet with a part. A message must be a packet of its direction, unless `any` is given.
-    Raises `NotJoined` if there is no message, if there are several, or if parts of others came with
-    this APID; then use `join_each`.
+    If you give a name, a direction or an APID, only packets with these are taken. If you give no APID,
+    it is that of the first packet with a part. A message must be a packet of its direction, unless
+    `any` is given. Raises `NotJoined` if there is no message, if there are several, or if parts of
+    other messages came with this APID: then use `join_each`.
 
     >>> from forgesilver import Load, Loaded, split, write_telecommand
     >>> load = Load(1, [Loaded(0, b"0123456789")]).telecommand(apid=100, count=7, source=1)
@@ -129,15 +130,16 @@ def join_each(
     packets: Packets, *, part_size: int, apid: Optional[int] = None, any: bool = False
 ) -> Iterator[Joined]:
     """Yields each message of these packets once it is whole. Yields what came of an incomplete
-    message once it is given up for another one of its name, or at the end, in the order of names.
+    message once it is given up for another one of its name. At the end yields what came of all others
+    that are incomplete, in the order of names.
 
-    Damaged and idle packets, those without a part of this APID and size, and octets that are no
-    packet are skipped. If you give no APID, it is that of the first packet with a part. If parts of
+    Skips damaged and idle packets, packets without a part of this APID and size, and octets that are
+    no packet. If you give no APID, it is that of the first packet with a part. If parts of
     another APID came then, or parts of another size, a `SkippedWarning` says so at the end.
 
-    If what is joined isn't a packet of its direction, `message` is None and `fault` says why; with
-    `any` anything joined is a message. Raises `Range`; and at the end `NotJoined`, if parts don't
-    fit the part size, and all that fit it are last parts.
+    If what is joined isn't a packet of its direction, `message` is None and `fault` says why. With
+    `any` anything joined is a message. Raises `Range`; and at the end `NotJoined` if some parts don't
+    fit the part size, and no others than last ones fit it.
     """
     part_size, choice, counts = part_size_of(part_size), choice_of(apid), Counts()
     yield from joined_of(_given(packets, part_size, choice, bool(any), None, counts))

@@ -31,10 +31,14 @@ class PartKind(IntEnum):
 
 
 class PieceKind(IntEnum):
-    """The first piece of a stream. WHOLE: a packet; in step (see `find_piece`) also an idle
-    packet, or one with a right checksum that has no secondary header or is a segment. DAMAGED, only
-    in step: octets that are no packet, as many as their header says, with a packet or the end after
-    them. STRAY: an octet with which no such piece begins."""
+    """The first piece of a stream; `find_piece` says what 'in step' is.
+
+    - WHOLE: a packet; in step also an idle packet, or a packet with a right checksum that has no
+      secondary header or is a segment
+    - DAMAGED, only in step: octets that are no packet, as many as their header says, with a packet or
+      the end after them
+    - STRAY: an octet with which no such piece begins
+    """
 
     WHOLE = 1
     DAMAGED = 2
@@ -43,8 +47,8 @@ class PieceKind(IntEnum):
 
 class ItemKind(IntEnum):
     """What an archive has. END: its end. PACKET: a packet with a secondary header of the layout.
-    IDLE: an idle packet. FAULTY: as many octets as a header says: a damaged packet, a segment, or a
-    packet whose secondary header is missing or isn't the layout's."""
+    IDLE: an idle packet. FAULTY: a damaged packet, a segment, or a packet whose secondary header is
+    missing or isn't the layout's; it has as many octets as its header says."""
 
     END = 0
     PACKET = 1
@@ -53,10 +57,16 @@ class ItemKind(IntEnum):
 
 
 class MessageKind(IntEnum):
-    """What becomes of an archive's messages. END: the archive ends. NONE: nothing happened. WHOLE:
-    a message is whole. MISSING: the parts of an incomplete message are given up. OVERTAKES: parts
-    are given up, and another message is whole. UNFIT: a message is whole, but isn't given, because
-    it is no packet of its direction, or, without checksums, may have parts of several messages."""
+    """What becomes of an archive's messages.
+
+    - END: the archive ends
+    - NONE: nothing happened
+    - WHOLE: a message is whole
+    - MISSING: the parts of an incomplete message are given up
+    - OVERTAKES: the parts of one message are given up, and another message is whole
+    - UNFIT: a message is whole, but isn't given, because it is no packet of its direction, or because,
+      without checksums, it may have parts of several messages
+    """
 
     END = 0
     NONE = 1
@@ -67,9 +77,15 @@ class MessageKind(IntEnum):
 
 
 class LaidKind(IntEnum):
-    """What a message is for the image of a memory. OTHER: no dump report. PART: a part of a message
-    of the APID. APID: a dump report, or a part, of another APID. UNREAD: a dump report whose body
-    isn't read. MEMORY: a dump report of another memory. AREAS: a dump report of this memory."""
+    """What a message is for the image of a memory.
+
+    - OTHER: no dump report
+    - PART: a part of a message of the APID
+    - APID: a dump report, or a part, of another APID
+    - UNREAD: a dump report whose body isn't read
+    - MEMORY: a dump report of another memory
+    - AREAS: a dump report of this memory
+    """
 
     OTHER = 0
     PART = 1
@@ -90,7 +106,7 @@ class Reason(IntEnum):
 
 
 class Failure(IntEnum):
-    """The first two say why a request wasn't accepted, the others why its execution didn't
+    """Why a request failed. UNKNOWN_TYPE and BODY: it wasn't accepted. The others: its execution didn't
     start."""
 
     UNKNOWN_TYPE = 1
@@ -145,10 +161,17 @@ class Mode(IntEnum):
 
 
 class OutcomeKind(IntEnum):
-    """What became of a packet that an end was given. KEPT: a part. AGAIN: a part that was kept
-    before. RELEASED: the last missing part. PLAIN_RELEASED: a telecommand that is no part.
-    REPORT_NOTED: telemetry that is no part. ABORT_NOTED: the report of an abortion. BROKEN: a part
-    that aborted its reception. IGNORED: the packet changed nothing."""
+    """What became of a packet that an end was given.
+
+    - KEPT: it has a part, which was kept
+    - AGAIN: it has a part that was kept before
+    - RELEASED: it has the part with which its message is whole, and is released
+    - PLAIN_RELEASED: it is a telecommand that is no part, and is released
+    - REPORT_NOTED: it is telemetry that is no part
+    - ABORT_NOTED: it is the report of an abortion
+    - BROKEN: it has a part that aborted its reception
+    - IGNORED: it changed nothing
+    """
 
     KEPT = 1
     AGAIN = 2
@@ -161,10 +184,16 @@ class OutcomeKind(IntEnum):
 
 
 class Why(IntEnum):
-    """Why an end ignored a packet. UNREADABLE: it is no packet, or of the wrong kind: the
-    spacecraft takes telecommands, ground telemetry. IDLE: it is idle. FOREIGN_APID: it has another
-    APID. BAD_PART: the body of a part or of an abortion's report can't be read. CLOSED: its
-    transaction has ended. NO_ROOM: as many receptions are open as may be."""
+    """Why an end ignored a packet.
+
+    - UNREADABLE: it is no packet, or of the wrong kind: the spacecraft takes telecommands, ground
+      telemetry
+    - IDLE: it is idle
+    - FOREIGN_APID: it has another APID
+    - BAD_PART: the body of a part or of an abortion's report can't be read
+    - CLOSED: the reception of its message has ended
+    - NO_ROOM: as many receptions are open as the limit allows
+    """
 
     UNREADABLE = 1
     IDLE = 2
@@ -193,11 +222,15 @@ class JobKind(IntEnum):
 
 
 class Step(IntEnum):
-    """What a job does next. SEND: a packet is to be sent. LISTEN: a packet is to be awaited. From
-    COMPLETED on the job is at its end. COMPLETED: each request is settled, and none was reported as
-    failed. FAILED: each request is settled, and some were reported as failed. GIVEN_UP: some are
-    open, and as many waits in a row as `tries` says settled nothing. CUT_OFF: some are open, and
-    nothing more will come."""
+    """What a job does next. With COMPLETED and those after it the job is at its end.
+
+    - SEND: a packet is to be sent
+    - LISTEN: a packet is to be awaited
+    - COMPLETED: each request is settled, and none was reported as failed
+    - FAILED: each request is settled, and some were reported as failed
+    - GIVEN_UP: some requests are open, and as many waits in a row as `tries` says settled nothing
+    - CUT_OFF: some requests are open, and nothing more will come
+    """
 
     SEND = 1
     LISTEN = 2

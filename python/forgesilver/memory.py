@@ -61,9 +61,9 @@ class _Request:
         self, *, apid: int, count: int, source: int,
         flags: Acknowledge = Acknowledge.ACCEPTANCE | Acknowledge.COMPLETION,
     ) -> Telecommand:
-        """The request as a telecommand; `write_telecommand` makes its packet, which `End.open`
-        takes if it is longer than a part. Reports name it by APID and count, so choose a count that
-        no request has whose reports may still come."""
+        """The request as a telecommand. `write_telecommand` makes its packet, which `End.open`
+        takes if it is longer than a part. Reports name the request by APID and count. So as long as
+        reports on another request may still come, don't give this one the same count."""
         return Telecommand(apid, count, flags, SERVICE, self.subtype, source, self.body())
 
 
@@ -152,8 +152,8 @@ class CheckReport:
 
 def write_load(memory: int, start: int, octets: Octets) -> bytes:
     """The body of a load of one area, which writes these octets into this memory, from this address
-    on. It has 10 octets more than these. Raises `Range`, `BadArea` of no octets, or `LongLoad` of
-    more than 65,519.
+    on. The body has 10 octets more than are loaded. Raises `Range`, `BadArea` if there are no octets,
+    or `LongLoad` if there are more than 65,519.
 
     >>> write_load(1, 16, bytes(2)).hex()
     '010100000010000200001d0f'

@@ -33,6 +33,7 @@ class RequestOutcome:
     verify --json`, and None if they aren't there.
 
     - request_id: the first four octets of the packet, in hexadecimal digits
+    - source: the source ID of the request, which `lpt verify --json` and `to_dict` don't have
     - memory_id, areas, start_address, area_length: of a load, dump or check the memory, how many
       areas, and the first
     - accepted, started, completed: whether its success was reported
@@ -40,8 +41,8 @@ class RequestOutcome:
       completion (TM[1,2], TM[1,4], TM[1,6], TM[1,8]), and its words. The code is None if the report
       has none of 16 bits, or is one of progress
     - acknowledgement: `not acknowledged` if it asks for no report of success, and didn't fail
-    - sharers: how many requests have its source and request ID, if they are several: a report is
-      taken for each of them
+    - sharers: if several requests have its source and request ID, how many: a report is taken for
+      each of them
     """
 
     request_id: str
@@ -65,8 +66,8 @@ class RequestOutcome:
 
     @property
     def is_done(self) -> bool:
-        """Whether it didn't fail, and the last success that it asks for was reported: never, if it
-        asks for none."""
+        """Whether it didn't fail, and the last success that it asks for was reported. If it asks for no
+        report of success, it is never done."""
         return self.failure is None and self._has_last
 
     @property
@@ -90,8 +91,9 @@ class RequestOutcome:
 class PassedOver:
     """How much of an archive of requests, or of reports, was passed over.
 
-    - parts: of large messages, among requests
-    - foreign: packets that aren't read as telecommands among requests, or telemetry among reports
+    - parts: among requests, how many parts of large messages
+    - foreign: among requests, how many packets aren't read as telecommands; among reports, how many
+      aren't read as telemetry
     - unread: verification reports that aren't read, except those of successful progress
     - damaged: how many packets are damaged
     - stray: how many octets with which no packet begins
@@ -115,8 +117,8 @@ class PassedOver:
 
 @dataclass(frozen=True)
 class Outcomes:
-    """What became of requests, in their order; and what of their archive and of the reports' was
-    passed over. It is iterated by request."""
+    """What became of requests, in their order, and what was passed over in the archive of requests and
+    in that of reports. If you iterate over it, you get each `RequestOutcome`."""
 
     requests: tuple[RequestOutcome, ...]
     of_requests: PassedOver

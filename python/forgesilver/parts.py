@@ -142,11 +142,12 @@ def split(
     time: int = 0,
     numbers: Optional[Iterable[int]] = None,
 ) -> Iterator[bytes]:
-    """The packets of a message's parts, in order; or of those with these numbers, from 1.
+    """The packets of a message's parts, in order; or only of the parts with these numbers, from 1.
 
-    Up they are telecommands, and down telemetry of this time, with message type counters of 0. The
-    first has this sequence count, and the others count on from it. Raises `ShortMessage` if the
-    message isn't longer than a part, `LongMessage` above 65,542 octets, `NoSuchPart`, and `Range`.
+    The packets up are telecommands. The packets down are telemetry, with this time and message type
+    counters of 0. The first packet has this sequence count, and the others count on from it. Raises
+    `ShortMessage` if the message isn't longer than a part, `LongMessage` above 65,542 octets,
+    `NoSuchPart`, and `Range`.
 
     >>> packets = split(bytes(20), name=(1, 7), part_size=8, apid=100)
     >>> [len(it) for it in packets]

@@ -13,6 +13,7 @@ import io
 import pickle
 import random
 import signal
+import tempfile
 import threading
 import warnings
 
@@ -87,6 +88,7 @@ def threads(want) -> None:
         # As if a signal's handler came within a call.
         want("within a call", end._call(lambda _: raised(end.tick)), forgesilver.WrongThread)
         want("behind it", raised(end.tick), None)
+    archives(want)
 
     # An end for each thread, all at once.
     message, joined = random.Random(3).randbytes(5000), []
@@ -106,6 +108,34 @@ def threads(want) -> None:
     for it in others:
         it.join()
     want("each thread its own", joined == [message] * 16, True)
+
+
+def archives(want) -> None:
+    """An archive that another thread closes stays open, and no call is taken while it reads its file."""
+    packets = b"".join(forgesilver.split(bytes(20), name=NAME, part_size=8, apid=100))
+    with tempfile.NamedTemporaryFile() as file:
+        file.write(packets)
+        file.flush()
+        with forgesilver.Archive(file.name, part_size=8) as archive:
+            found = []
+            other = threading.Thread(target=lambda: found.append(raised(archive.close)))
+            other.start()
+            other.join()
+            want("an archive, closed by another thread", found, [forgesilver.WrongThread])
+            want("it goes on", [it.place for it in archive], [0, 25, 50, 71])
+
+    class Nested(io.BytesIO):
+        """A file whose reads call the archive."""
+
+        def read1(self, *words) -> bytes:
+            nested.append(raised(next, reading))
+            return super().read1(*words)
+
+    nested: list[object] = []
+    reading = forgesilver.Archive(Nested(packets), part_size=8)
+    want("behind nested calls", [it.place for it in reading], [0, 25, 50, 71])
+    want("nested calls", set(nested), {forgesilver.WrongThread})
+    reading.close()
 
 
 def interrupts(want) -> None:
