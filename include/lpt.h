@@ -3,9 +3,10 @@
  * memory management (ECSS-E-ST-70-41C, services 13, 1 and 6), read from and written to the caller's
  * buffers.
  *
- * No call allocates memory. A call that can fail returns LPT_DONE, or the number of what is wrong;
- * then it has written through pointers only what its comment says. docs/FORMATS.md has the layouts
- * and the faults, docs/C.md what the caller promises:
+ * No call allocates memory. A call that can fail returns LPT_DONE, or the number of the first thing
+ * that is wrong. Its comment lists these numbers in the order in which it tests them. If it doesn't
+ * return LPT_DONE, it has written through pointers only what its comment says. docs/FORMATS.md has
+ * the layouts and the faults, docs/C.md what the caller promises:
  *
  *   - a length is the true number of items at its pointer, and memory that a call reads is
  *     initialised. Memory that a call only writes, as `out` and `needed`, may be uninitialised;
@@ -62,8 +63,8 @@ uint32_t lpt_version(void);
 
 /* ---- what calls return ---- */
 
-/* Done, the faults of docs/FORMATS.md, and numbers of the libraries alone, from 101 on. A call
-   returns one as a uint32_t. */
+/* What a call returns, as a uint32_t: that it is done, or a fault. docs/FORMATS.md has the faults
+   below 100, and those of states. All others are of the libraries alone. */
 enum LptFault {
     LPT_DONE = 0,
 
@@ -73,12 +74,14 @@ enum LptFault {
     LPT_E_LENGTH = 3,       /* they aren't as many as the header says */
     LPT_E_SEGMENTED = 4,    /* the sequence flags aren't 11 */
     LPT_E_NO_SECONDARY = 5, /* the secondary header flag is 0 */
-    LPT_E_CHECKSUM = 6,     /* fewer than 8, or the last two aren't the checksum of those before */
+    LPT_E_CHECKSUM = 6,     /* they are fewer than 8, or the last two aren't the checksum of those
+                               before */
 
     /* A packet that isn't a message of the kind that is read; tested in the order 12, 13, 11. */
-    LPT_E_PUS_VERSION = 11,  /* the PUS version isn't 2 (for a reader: the layout's) */
+    LPT_E_PUS_VERSION = 11,  /* the PUS version isn't 2 (for a reader: isn't the layout's) */
     LPT_E_WRONG_TYPE = 12,   /* it is telemetry, and not a telecommand, or the other way round */
     LPT_E_SHORT_HEADER = 13, /* the data field is shorter than the secondary header */
+
     /* The packet to be written would have more than 65,542 octets. */
     LPT_E_TOO_LONG = 14,
 
@@ -87,38 +90,40 @@ enum LptFault {
     LPT_E_ZERO_NUMBER = 21, /* the part's number is 0 */
     LPT_E_KIND_NUMBER = 22, /* a first part's number isn't 1, or another part's number is 1 */
     LPT_E_PART_LENGTH = 23, /* the part is too short or too long, or ends after octet 65,542 */
+
     /* A body that is no abortion report. */
     LPT_E_ABORT_BODY = 24,
 
     /* Of an end: the memories aren't as lpt_end_new or lpt_end_new_sized says. */
     LPT_E_MEMORIES = 25,
 
-    /* A request to a memory: 27, the load's packet would have more than 65,542 octets; 28, it has
-       no area, more than 255, or one without octets. A job: 28, it has no place, one without
-       octets or with some behind the last address, or, if it loads, two that share an address. */
+    /* Of a load: its packet would have more than 65,542 octets. */
     LPT_E_LONG_LOAD = 27,
+    /* Of a request to a memory: it has no area, more than 255, or one without octets. Of a job: it
+       has no place, one without octets, or one with octets behind the last address; or it loads,
+       and two of its places share an address. */
     LPT_E_BAD_AREA = 28,
 
     /* Of an end: the transaction's name isn't free. */
     LPT_E_IN_USE = 41,
-    /* 42, a message that isn't longer than a part; 43, one of more than 65,542 octets, or a plain
-       request that is longer than the link takes. */
+    /* The message isn't longer than a part. */
     LPT_E_SHORT_MESSAGE = 42,
+    /* The message has more than 65,542 octets, or a plain request is longer than the link takes. */
     LPT_E_LONG_MESSAGE = 43,
-    /* Of an end: 44, as many messages are open as its configuration allows; 45, no message of this
-       name is open, or no reception of it. */
+    /* Of an end: as many messages are open as its configuration allows. */
     LPT_E_TOO_MANY = 44,
+    /* Of an end: no message of this name is open, or no reception of it. */
     LPT_E_NOT_OPEN = 45,
     /* The message has no part of that number. */
     LPT_E_NO_SUCH_PART = 46,
-    /* Of an end: 50, no reception is due; 51, there is no request to read or to execute; 52, the
-       oldest wasn't read; 55, the transaction is open; 56, the clock would pass its greatest
-       value. */
-    LPT_E_NOTHING_DUE = 50,
-    LPT_E_NO_JOB = 51,
-    LPT_E_NOT_READ = 52,
-    LPT_E_STILL_OPEN = 55,
-    LPT_E_CLOCK_END = 56,
+
+    /* Of an end. */
+    LPT_E_NOTHING_DUE = 50, /* no reception is due */
+    LPT_E_NO_JOB = 51,      /* there is no request to read or to execute */
+    LPT_E_NOT_READ = 52,    /* the oldest request wasn't read */
+    LPT_E_STILL_OPEN = 55,  /* the transaction is open */
+    LPT_E_CLOCK_END = 56,   /* the clock would pass its greatest value */
+
     /* Of an end, a pass or a reader: an allocation was refused. */
     LPT_E_ALLOCATION = 58,
     /* Of an end: a plain request has the service type and message subtype of a part. */
@@ -135,16 +140,16 @@ enum LptFault {
     LPT_E_IDLE = 101,
     /* A number is out of the range that the call's comment gives. */
     LPT_E_RANGE = 102,
-    /* The buffer is too short: it is as it was, and `needed` says how many octets it takes (of
-       lpt_reader_lay, `laid`). */
+    /* The buffer is too short. It is as it was, and `needed` says how many octets it must have. In
+       lpt_reader_lay, `laid` says that. */
     LPT_E_ROOM = 103,
     /* The result depends on octets to come: more of the stream is needed. */
     LPT_E_MORE = 104,
-    /* The body is no such report (of lpt_reader_area: isn't exactly the areas that it
-       announces). */
+    /* The body isn't the report that it is read as. Of lpt_reader_area: the body isn't exactly the
+       areas that it announces. */
     LPT_E_NO_REPORT = 105,
-    /* Of an end, a pass or a reader: nothing is left of it, as after a longjmp out of a memory
-       function; in Python: it was closed. */
+    /* Of an end, a pass or a reader: its content is lost, because a memory function was left by
+       longjmp or by an exception. In Python: it was closed. */
     LPT_E_EMPTY = 106,
     /* Of an end: its count of released requests, or of restarts, has its greatest value,
        2^64 - 1. */
@@ -164,17 +169,19 @@ enum LptFault {
     LPT_E_STATE_CHECKSUM = 117, /* their checksum is wrong */
     LPT_E_STATE_ORDER = 118,    /* their names are out of order */
 
-    /* Of an end: the call is for an end that has its memories itself, and this one's caller has
-       them, or the other way round. */
+    /* Of an end: the call is for an end that has its memories itself, and this end's are with the
+       caller; or the other way round. */
     LPT_E_ELSEWHERE = 119,
-    /* Of an end: these are more or fewer octets than the request reads. */
+    /* Of an end: the caller passed more or fewer octets than the request reads. */
     LPT_E_READ_LENGTH = 120,
     /* A job takes more requests than a pass may have, 16,384. */
     LPT_E_LONG_JOB = 121,
-    /* Of a reader: 122, the text is no layout; 123, the archive has ended; 124, the packets have
-       no checksum, and the parts of this message may come from several messages. */
+    /* Of a reader: the text is no layout. */
     LPT_E_LAYOUT = 122,
+    /* Of a reader: the archive has ended. */
     LPT_E_ENDED = 123,
+    /* Of a reader: the packets have no checksum, and the parts of this message may come from
+       several messages. */
     LPT_E_UNSURE = 124,
     /* Of an end: the clock, or the tick at which a reception last got a part, would go below 0. */
     LPT_E_CLOCK_START = 125
@@ -324,18 +331,26 @@ enum LptPartKind {
     LPT_PART_LAST = 3
 };
 
-/* The piece at the front of a stream. WHOLE: a packet. In step (see lpt_find_piece) an idle packet
-   is WHOLE too, and so is a packet with a right checksum that has no secondary header or is a
-   segment; for these lpt_read_packet returns LPT_E_IDLE, LPT_E_NO_SECONDARY or LPT_E_SEGMENTED.
-   DAMAGED, only in step: octets that are no packet, as many as their header says, with the end of
-   the stream, or a packet that is WHOLE out of step, after them. STRAY: an octet with which no such
-   piece begins. */
-enum LptPieceKind { LPT_PIECE_WHOLE = 1, LPT_PIECE_DAMAGED = 2, LPT_PIECE_STRAY = 3 };
+/* The piece at the front of a stream. `in_step` is that of lpt_find_piece. */
+enum LptPieceKind {
+    /* A packet. In step three others are WHOLE too: an idle packet, and, with a right checksum, a
+       packet that has no secondary header or that is a segment. For these lpt_read_packet returns
+       LPT_E_IDLE, LPT_E_NO_SECONDARY or LPT_E_SEGMENTED. */
+    LPT_PIECE_WHOLE = 1,
+    /* Only in step: octets that are no packet, as many as their header says. After them the stream
+       ends, or a packet follows that is WHOLE out of step. */
+    LPT_PIECE_DAMAGED = 2,
+    /* An octet with which no WHOLE or DAMAGED piece begins. */
+    LPT_PIECE_STRAY = 3
+};
 
-/* Why a reception was aborted: it expired or was given up; in strict mode a part came that is
-   neither the next nor one that was kept (so also if the first part that comes isn't part 1); a
-   part contradicts another. */
-enum LptReason { LPT_REASON_EXPIRED = 1, LPT_REASON_DISCONTINUITY = 2, LPT_REASON_CONFLICT = 3 };
+/* Why a reception was aborted. */
+enum LptReason {
+    LPT_REASON_EXPIRED = 1,       /* it expired, or was given up */
+    LPT_REASON_DISCONTINUITY = 2, /* in strict mode: a part came that is neither the next one nor
+                                     one that was kept, for example part 2 before part 1 */
+    LPT_REASON_CONFLICT = 3       /* a part contradicts another */
+};
 
 /* The name of an LptReason, for example "expired" of LPT_REASON_EXPIRED; "unknown" for another
    number. */
@@ -389,10 +404,13 @@ static inline const char *lpt_failure_name(uint32_t failure) {
     }
 }
 
-/* The length of the longest packet, and of the longest message that is sent in parts; how many
-   octets of a stream are always enough for lpt_find_piece; how many numbers of `room` make
-   lpt_count_strays quick. */
-enum { LPT_LONGEST_PACKET = 65542, LPT_LOOKAHEAD = 131084, LPT_STRAY_ROOM = 2049 };
+/* Sizes of buffers. */
+enum {
+    LPT_LONGEST_PACKET = 65542, /* the length of the longest packet, and of the longest message that
+                                   is sent in parts */
+    LPT_LOOKAHEAD = 131084,     /* so many octets of a stream are enough for lpt_find_piece */
+    LPT_STRAY_ROOM = 2049       /* with so many numbers in `room` lpt_count_strays is quick */
+};
 
 /* ---- packets ---- */
 
@@ -408,17 +426,17 @@ uint16_t lpt_crc16_more(uint16_t crc, const uint8_t *octets, size_t octets_len);
 /*
  * Returns the length of the packet at the front of a stream, from its first six octets. LPT_DONE
  * for a packet, LPT_E_IDLE for an idle one, which may be skipped; for both *length is written, 7 to
- * 65,542. LPT_E_VERSION if no packet begins with these, otherwise LPT_E_MORE if there are fewer
- * than six.
+ * 65,542. LPT_E_VERSION if no packet begins with these octets; otherwise LPT_E_MORE if they are
+ * fewer than six.
  */
 LPT_MUST_USE
 uint32_t lpt_packet_length(const uint8_t *octets, size_t octets_len, size_t *length);
 
 /*
- * Finds the piece at the front of a stream that may be damaged. `in_step` is 1 if the
- * octets begin the stream, or come right after a packet or a damaged one, and 0 after a stray
- * octet; `is_end` is 1 if nothing comes after them, and 0 if that isn't known. Any
- * number but 0 is taken as 1.
+ * Finds the piece at the front of a stream that may be damaged. `in_step` is 1 if the octets begin
+ * the stream, or come right after a packet or a damaged one. It is 0 after a stray octet. `is_end`
+ * is 1 if nothing comes after the octets, and 0 if that isn't known. Any number but 0 is taken as
+ * 1.
  *
  * LPT_DONE, and the piece's *kind (LPT_PIECE_WHOLE, LPT_PIECE_DAMAGED or LPT_PIECE_STRAY) and
  * *size (in octets, at least 1) are written: later octets won't change them. LPT_E_MORE if there
@@ -430,12 +448,13 @@ uint32_t lpt_find_piece(const uint8_t *octets, size_t octets_len, uint32_t in_st
                         uint32_t *kind, size_t *size);
 
 /*
- * Counts the stray octets at the front of octets that come right after a stray one:
- * lpt_find_piece with `in_step` 0 would report LPT_PIECE_STRAY that many times in a row. A call
- * counts at most LPT_LONGEST_PACKET, and returns 0 if lpt_find_piece would report something else.
- * It is quicker than lpt_find_piece if headers among these octets announce long packets, because it
- * uses `room` for its calculations. With LPT_STRAY_ROOM numbers there, each octet takes a bounded
- * time; with fewer, or none, the result is the same. `room` needn't be initialised, nor kept.
+ * Counts stray octets. The octets come right after a stray one, and the result is how many more
+ * follow at once: so many times in a row lpt_find_piece with `in_step` 0 would report
+ * LPT_PIECE_STRAY. A call counts at most LPT_LONGEST_PACKET, and returns 0 if lpt_find_piece would
+ * report something else. It is quicker than lpt_find_piece if headers among these octets announce
+ * long packets, because it uses `room` for its calculations. With LPT_STRAY_ROOM numbers there,
+ * each octet takes a bounded time. With fewer, or none, the result is the same. `room` needn't be
+ * initialised, nor kept.
  */
 LPT_MUST_USE
 size_t lpt_count_strays(const uint8_t *octets, size_t octets_len, uint32_t is_end, uint16_t *room,
@@ -457,9 +476,9 @@ uint32_t lpt_read_packet(const uint8_t *octets, size_t octets_len, LptPacket *ou
 
 /*
  * Writes a packet to the front of a buffer, and leaves the rest of it as it was.
- * LPT_DONE; LPT_E_RANGE for another kind, an APID above 2046 or a count above 16,383;
- * LPT_E_TOO_LONG; LPT_E_ROOM. At LPT_DONE and LPT_E_ROOM *needed is the packet's length, 8 more
- * than the field's.
+ * LPT_DONE; LPT_E_RANGE for a kind that is no LptPacketKind, an APID above 2046 or a count above
+ * 16,383; LPT_E_TOO_LONG; LPT_E_ROOM. At LPT_DONE and LPT_E_ROOM *needed is the packet's length, 8
+ * more than the field's.
  */
 LPT_MUST_USE
 uint32_t lpt_write_packet(uint32_t kind, uint16_t apid, uint16_t count, const uint8_t *field,
@@ -467,8 +486,8 @@ uint32_t lpt_write_packet(uint32_t kind, uint16_t apid, uint16_t count, const ui
 
 /*
  * Builds a packet in place: its data field, of field_len octets, is in the buffer already, from
- * out[6] on, and stays there. Returns what lpt_write_packet returns for those octets; unless that
- * is LPT_DONE, the buffer stays as it was.
+ * out[6] on, and stays there. Returns what lpt_write_packet returns for those octets. If that isn't
+ * LPT_DONE, the buffer stays as it was.
  */
 LPT_MUST_USE
 uint32_t lpt_build_packet(uint32_t kind, uint16_t apid, uint16_t count, size_t field_len,
@@ -480,10 +499,11 @@ uint32_t lpt_build_packet(uint32_t kind, uint16_t apid, uint16_t count, size_t f
 typedef struct LptTcHead {
     uint16_t apid;  /* 0 to 2046 */
     uint16_t count; /* 0 to 16,383 */
-    uint8_t flags;  /* 0 to 15: 1 acceptance, 2 start, 4 progress, 8 completion */
+    uint8_t flags;  /* which reports are asked for, 0 to 15: the sum of 1 acceptance, 2 start, 4
+                       progress, 8 completion */
     uint8_t service;
     uint8_t subtype;
-    uint16_t source;
+    uint16_t source; /* the source ID */
 } LptTcHead;
 
 /* A telecommand that was read. Its body is the len octets from octets[at] on. */
@@ -493,9 +513,9 @@ typedef struct LptTc {
     size_t len;
 } LptTc;
 
-/* Reads the octets of a whole packet as a telecommand. Returns what lpt_read_packet returns, or, if
-   that is LPT_DONE, LPT_E_WRONG_TYPE, LPT_E_SHORT_HEADER or LPT_E_PUS_VERSION, the first that
-   applies. *out is written at LPT_DONE. */
+/* Reads the octets of a whole packet as a telecommand. Returns what lpt_read_packet returns; or, if
+   that is LPT_DONE, the first of LPT_E_WRONG_TYPE, LPT_E_SHORT_HEADER and LPT_E_PUS_VERSION that
+   applies; otherwise LPT_DONE, and *out is written. */
 LPT_MUST_USE
 uint32_t lpt_read_tc(const uint8_t *octets, size_t octets_len, LptTc *out);
 
@@ -527,9 +547,9 @@ typedef struct LptTmHead {
     uint8_t status; /* the time reference status, 0 to 15 */
     uint8_t service;
     uint8_t subtype;
-    uint16_t counter;
-    uint16_t destination;
-    uint32_t time;
+    uint16_t counter;     /* the message type counter */
+    uint16_t destination; /* the destination ID */
+    uint32_t time;        /* when the message was made, in ticks of the sender's clock */
 } LptTmHead;
 
 /* Telemetry that was read. Its body is the len octets from octets[at] on. */
@@ -561,15 +581,16 @@ uint32_t lpt_build_tm(const LptTmHead *head, size_t body_len, uint8_t *out, size
 
 /* ---- parts of large messages ---- */
 
-/* Returns which kind of part a message of this service and subtype carries in a packet of this kind
-   (LPT_PACKET_TM or LPT_PACKET_TC): LPT_PART_FIRST, LPT_PART_INTERMEDIATE or LPT_PART_LAST;
-   LPT_PART_NONE if it carries none, or if there is no such kind of packet. */
+/* Returns which kind of part a packet carries: LPT_PART_FIRST, LPT_PART_INTERMEDIATE or
+   LPT_PART_LAST. `packet_kind` is LPT_PACKET_TM or LPT_PACKET_TC; service and subtype are those of
+   its message. The result is LPT_PART_NONE if such a packet carries no part, or if there is no such
+   kind of packet. */
 LPT_MUST_USE
 uint32_t lpt_part_kind(uint32_t packet_kind, uint8_t service, uint8_t subtype);
 
-/* Returns how many parts of this size a message has: 1 if it isn't longer than a part, although it
-   isn't sent in parts then; 0 if it is empty or has more than 65,542 octets, or if the size isn't 4
-   to 1,024. */
+/* Returns how many parts of this size a message has. The result is 1 if the message isn't longer
+   than a part, although it isn't sent in parts then. It is 0 if the message is empty or has more
+   than 65,542 octets, or if the size isn't 4 to 1,024. */
 LPT_MUST_USE
 uint32_t lpt_part_count(size_t message_len, uint32_t part_size);
 
@@ -594,18 +615,18 @@ typedef struct LptPart {
     size_t len;
 } LptPart;
 
-/* Reads a message's body as a part of this kind: LPT_DONE; LPT_E_RANGE for another kind or part
-   size; or LPT_E_SHORT_PART to LPT_E_PART_LENGTH, the first that applies. *out is written at
-   LPT_DONE. */
+/* Reads a message's body as a part of this kind: LPT_DONE; LPT_E_RANGE for a kind that isn't 1 to
+   3, or a part size that isn't 4 to 1,024; or LPT_E_SHORT_PART to LPT_E_PART_LENGTH, the first that
+   applies. *out is written at LPT_DONE. */
 LPT_MUST_USE
 uint32_t lpt_read_part(uint32_t kind, const uint8_t *body, size_t body_len, uint32_t part_size,
                        LptPart *out);
 
 /*
  * Writes the body of a message that carries a part to the front of a buffer, and leaves the rest of
- * it as it was. LPT_DONE; LPT_E_RANGE for another kind or part size; LPT_E_ZERO_NUMBER,
- * LPT_E_KIND_NUMBER or LPT_E_PART_LENGTH, if there is no such part; LPT_E_ROOM. At LPT_DONE and
- * LPT_E_ROOM *needed is the body's length.
+ * it as it was. LPT_DONE; LPT_E_RANGE for a kind that isn't 1 to 3, or a part size that isn't 4 to
+ * 1,024; LPT_E_ZERO_NUMBER, LPT_E_KIND_NUMBER or LPT_E_PART_LENGTH, if there is no such part;
+ * LPT_E_ROOM. At LPT_DONE and LPT_E_ROOM *needed is the body's length.
  */
 LPT_MUST_USE
 uint32_t lpt_write_part(uint32_t kind, uint16_t id, uint16_t number, const uint8_t *octets,
@@ -631,8 +652,8 @@ LPT_MUST_USE
 uint32_t lpt_read_abort(const uint8_t *body, size_t body_len, LptAbort *out);
 
 /* Writes the body of an abortion report to the front of a buffer, and leaves the rest of it as
-   it was: LPT_DONE; LPT_E_RANGE for another reason; LPT_E_ROOM. At LPT_DONE and LPT_E_ROOM
-   *needed is 3. */
+   it was: LPT_DONE; LPT_E_RANGE for a reason that is no LptReason; LPT_E_ROOM. At LPT_DONE and
+   LPT_E_ROOM *needed is 3. */
 LPT_MUST_USE
 uint32_t lpt_write_abort(uint16_t id, uint16_t reason, uint8_t *out, size_t out_len,
                          size_t *needed);
@@ -643,10 +664,11 @@ uint32_t lpt_write_abort(uint16_t id, uint16_t reason, uint8_t *out, size_t out_
 typedef struct LptReport {
     uint32_t request; /* the request ID */
     uint16_t failed;  /* 1 if it is the report of a failure, otherwise 0 */
-    uint16_t code;    /* the failure code that it has, any 16 bits; 0 for a success */
+    uint16_t code;    /* the failure code of the report, any 16 bits; 0 for a success */
 } LptReport;
 
-/* Reads a message's body as the report of this subtype: 1, 3 or 7 of success, 2 or 4 of failure.
+/* Reads a message's body as the report of this subtype: 1, 3 or 7 of success, 2 or 4 of failure. It
+   doesn't know the message's service: test first that this is 1.
    LPT_DONE, and *out is written; or LPT_E_NO_REPORT. */
 LPT_MUST_USE
 uint32_t lpt_read_report(uint8_t subtype, const uint8_t *body, size_t body_len, LptReport *out);
@@ -654,8 +676,8 @@ uint32_t lpt_read_report(uint8_t subtype, const uint8_t *body, size_t body_len, 
 /*
  * Writes the body of the report of this subtype to the front of a buffer, and leaves the rest of it
  * as it was. Subtypes 1, 3 and 7 have code 0, and subtypes 2 and 4 a code of 1 to 8. LPT_DONE;
- * LPT_E_RANGE for others; LPT_E_ROOM. At LPT_DONE and LPT_E_ROOM *needed is the body's length: 4 of
- * a success, 6 of a failure.
+ * LPT_E_RANGE for another subtype, or for another code of this subtype; LPT_E_ROOM. At LPT_DONE and
+ * LPT_E_ROOM *needed is the body's length: 4 of a success, 6 of a failure.
  */
 LPT_MUST_USE
 uint32_t lpt_write_report(uint8_t subtype, uint32_t request, uint16_t code, uint8_t *out,
@@ -668,7 +690,7 @@ uint32_t lpt_write_report(uint8_t subtype, uint32_t request, uint16_t code, uint
  * of it as it was. The load writes these octets into this memory, from this address on. Their
  * checksum is added.
  * LPT_DONE; LPT_E_BAD_AREA for no octets, LPT_E_LONG_LOAD for more than 65,519; LPT_E_ROOM. At
- * LPT_DONE and LPT_E_ROOM *needed is the body's length, 10 more than theirs.
+ * LPT_DONE and LPT_E_ROOM *needed is the body's length, 10 more than octets_len.
  */
 LPT_MUST_USE
 uint32_t lpt_write_load(uint8_t memory, uint32_t address, const uint8_t *octets, size_t octets_len,
@@ -684,13 +706,14 @@ typedef struct LptRange {
  * Writes the body of a dump, subtype 5, to the front of a buffer, and leaves the rest of it as it
  * was. The dump asks for the octets at these places of this memory, in this order. LPT_DONE;
  * LPT_E_BAD_AREA for no place, more than 255, or one without octets; LPT_E_ROOM. At LPT_DONE and
- * LPT_E_ROOM *needed is the body's length, 2 and 6 for each place.
+ * LPT_E_ROOM *needed is the body's length: 2, and 6 for each place.
  */
 LPT_MUST_USE
 uint32_t lpt_write_dump(uint8_t memory, const LptRange *ranges, size_t ranges_len, uint8_t *out,
                         size_t out_len, size_t *needed);
 
-/* The same for a check, subtype 9, which asks for the checksums of the octets. */
+/* Writes the body of a check, subtype 9, as lpt_write_dump does that of a dump. A check asks for
+   the checksums of the octets at these places. */
 LPT_MUST_USE
 uint32_t lpt_write_check(uint8_t memory, const LptRange *ranges, size_t ranges_len, uint8_t *out,
                          size_t out_len, size_t *needed);

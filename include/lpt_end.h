@@ -5,20 +5,26 @@
  *
  * A program holds an end by its address, an LptEnd *. lpt_end_new, lpt_end_resume and their like
  * return one, and lpt_end_free frees it. A copy of the address names the same end; what it points
- * to belongs to the library. Each call returns LPT_DONE, or the number of the first thing that is
- * wrong, in the order of its comment. If it isn't LPT_DONE, the end is as it was, and the call has
- * written nothing through a pointer but what its comment says. LPT_E_ALLOCATION (out of memory)
- * comes last. include/lpt.h lists the faults, and docs/C.md explains what the caller promises:
+ * to belongs to the library.
+ *
+ * Each call returns LPT_DONE, or the number of the first thing that is wrong. Its comment lists
+ * these numbers in the order in which it tests them, and LPT_E_ALLOCATION (out of memory) last. If
+ * a call doesn't return LPT_DONE, the end is as it was, and the call has written nothing through a
+ * pointer but what its comment says. include/lpt.h explains the numbers. The comments leave out
+ * LPT_E_EMPTY, which is returned only after a memory function was left by longjmp or an exception.
+ *
+ * docs/C.md explains what the caller promises:
  *
  *   - what include/lpt.h says about lengths, pointers and overlaps;
  *   - the address of an end was returned by a call, and lpt_end_free hasn't freed it;
  *   - only one call at a time uses an end, and none is made in an interrupt or a signal handler.
  *     Another thread may use an end if a lock, or the start or end of a thread, comes in between.
  *     Calls on different ends may run at once only if the three memory functions may;
- *   - each part or plain request that is handed to lpt_end_packet was made by the other end (or, if
- *     ground has no end on this link, by a pass of lpt_ground.h or of `lpt ground`), and each part
- *     was made after this end last freed its name: nobody forges such packets, no damage passes
- *     the checksum, and no octets within a packet are taken for a packet on the link;
+ *   - each part or plain request that is handed to lpt_end_packet was made by the other end. If
+ *     ground has no end on this link, a pass of lpt_ground.h or of `lpt ground` may have made it.
+ *     So nobody forges such packets, no damage passes the checksum, and no octets within a packet
+ *     are taken for a packet on the link;
+ *   - each part that is handed to lpt_end_packet was made after this end last freed its name;
  *   - the rules at lpt_end_new, lpt_end_packet and lpt_end_retire, for the two ends of a link;
  *   - a program that has the memories itself reads them as lpt_end_access says, before
  *     lpt_end_execute_given. It writes them before that call, or after it and before it executes
@@ -54,8 +60,8 @@ typedef struct LptEnd LptEnd;
 /*
  * What is fixed about an end. Both ends of a link have the same APID, part size and mode, because
  * they make and join packets by these. The other values are an end's own. An end that is restored
- * from a state may have another timeout and other limits than before; if its APID, part size or
- * mode is another, lpt_end_resume returns LPT_E_STATE_CONFIG.
+ * from a state may have another timeout and other limits than before. It must have the same APID,
+ * part size and mode; otherwise lpt_end_resume returns LPT_E_STATE_CONFIG.
  */
 typedef struct LptConfig {
     uint16_t apid;       /* of all packets, 0 to 2046 */
@@ -101,7 +107,8 @@ void lpt_end_free(LptEnd *end);
 
 /* ---- receiving ---- */
 
-/* What became of a packet, and which fields of LptOutcome are used. `name` is its transaction. */
+/* What became of a packet. Behind the colon stand the fields of LptOutcome that are used: `name` is
+   the packet's transaction, and `first` and `second` are numbers. */
 enum LptOutcomeKind {
     LPT_OUTCOME_KEPT = 1,           /* a part: name; first is its number */
     LPT_OUTCOME_AGAIN = 2,          /* a part that was kept before: name; first is its number */
@@ -111,11 +118,11 @@ enum LptOutcomeKind {
     LPT_OUTCOME_REPORT_NOTED = 5,   /* telemetry that is no part: first is its service type, second
                                        its message subtype */
     LPT_OUTCOME_ABORT_NOTED = 6,    /* the report of an abortion: name; first is the LptReason */
-    LPT_OUTCOME_BROKEN = 7,         /* a part that aborted its reception, or in strict mode one
-                                       that came first and isn't part 1 (both close the name):
+    LPT_OUTCOME_BROKEN = 7,         /* a part that aborted its reception, or in strict mode a part
+                                       that came first and isn't part 1. Either closes the name:
                                        name; first is the LptReason */
-    LPT_OUTCOME_IGNORED = 8         /* the packet changed nothing, except that the message that was
-                                       released last can't be copied any more: first is the
+    LPT_OUTCOME_IGNORED = 8         /* a packet that changed nothing (but the message that was
+                                       released last can't be copied any more): first is the
                                        LptWhy */
 };
 
@@ -146,8 +153,9 @@ static inline const char *lpt_outcome_name(uint32_t outcome) {
 
 /* Why an end ignored a packet. */
 enum LptWhy {
-    LPT_WHY_UNREADABLE = 1,   /* no packet, or of the wrong kind: the spacecraft takes telecommands,
-                                 ground telemetry */
+    LPT_WHY_UNREADABLE = 1,   /* not read as a packet (also a sound one without a secondary header,
+                                 or a segment, of any APID), or of the wrong kind: the spacecraft
+                                 takes telecommands, ground telemetry */
     LPT_WHY_IDLE = 2,         /* an idle packet */
     LPT_WHY_FOREIGN_APID = 3, /* another APID */
     LPT_WHY_BAD_PART = 4,     /* a part, or a report of an abortion, whose body can't be read */
@@ -184,9 +192,9 @@ typedef struct LptOutcome {
 } LptOutcome;
 
 /*
- * Takes a packet that came, and returns what became of it. A message that it released can be copied
- * until the next packet is taken. If a spacecraft's end aborts a reception, a report of that waits
- * to be sent.
+ * Takes a packet that came, and returns what became of it. If the packet released a message, this
+ * can be copied until the next packet is taken. If a spacecraft's end aborts a reception, a report
+ * of that waits to be sent.
  * The layer below must know where packets begin and end. Don't search damaged octets for the next
  * packet: a message may contain packets, and the end would take one of those as if it had been
  * sent.
@@ -205,8 +213,9 @@ uint32_t lpt_end_released(LptEnd *end, uint8_t *out, size_t out_len, size_t *nee
 
 /*
  * Gives up a reception to which no part came for as long as the timeout. If several are due, it is
- * the one that has waited longest; of those, the one with the least source, and then the least
- * identifier. At a spacecraft's end, a report of this waits to be sent.
+ * the one that has waited longest. If several have waited as long, it is the one with the least
+ * source, and of one source the one with the least identifier. At a spacecraft's end, a report of
+ * this waits to be sent.
  * LPT_DONE, and *name is its name; LPT_E_NOTHING_DUE; LPT_E_ALLOCATION.
  */
 LPT_MUST_USE
@@ -243,7 +252,7 @@ uint32_t lpt_end_part(LptEnd *end, const LptName *name, uint16_t number);
  * makes requests. Reports on the request go to its source. The spacecraft executes the request as
  * often as the packet is delivered.
  * LPT_DONE; LPT_E_RANGE for flags above 15, and at the spacecraft; LPT_E_PART_REQUEST;
- * LPT_E_LONG_MESSAGE if the packet would be longer than the part size and 23 octets;
+ * LPT_E_LONG_MESSAGE if the packet would be longer than part_size + 23 octets;
  * LPT_E_ALLOCATION.
  */
 LPT_MUST_USE
@@ -257,7 +266,7 @@ uint32_t lpt_end_finish(LptEnd *end, const LptName *name);
 /*
  * Copies the next packet to be sent to the front of a buffer, and leaves the rest of the buffer as
  * it was. LPT_DONE; LPT_E_NOTHING if none waits; LPT_E_ROOM. At LPT_DONE and LPT_E_ROOM *needed is
- * the packet's length, at most part_size and 23. The packet stays the next one until lpt_end_sent.
+ * the packet's length, at most part_size + 23. The packet stays the next one until lpt_end_sent.
  */
 LPT_MUST_USE
 uint32_t lpt_end_outgoing(LptEnd *end, uint8_t *out, size_t out_len, size_t *needed);
@@ -272,7 +281,8 @@ uint32_t lpt_end_sent(LptEnd *end);
 enum LptAppliedKind {
     LPT_APPLIED_CARRIED_OUT = 1,
     LPT_APPLIED_OPENED = 2, /* carried out; its report is the open message `name`, sent in parts */
-    LPT_APPLIED_SILENT = 3, /* nothing was done: it is no telecommand of the APID, or was dropped */
+    LPT_APPLIED_SILENT = 3, /* nothing was done, because the request is no telecommand of the APID,
+                               or was dropped */
     LPT_APPLIED_REFUSED = 4 /* it failed, and changed nothing: `value` is the LptFailure */
 };
 
@@ -301,7 +311,8 @@ typedef struct LptApplied {
 } LptApplied;
 
 /* Reads the oldest released request that wasn't read yet: finds out what it asks, so that
-   lpt_end_execute can execute it. LPT_DONE; LPT_E_NO_JOB, as always on ground; LPT_E_ALLOCATION. */
+   lpt_end_execute can execute it. LPT_DONE; LPT_E_NO_JOB if there is none, as always on ground;
+   LPT_E_ALLOCATION. */
 LPT_MUST_USE
 uint32_t lpt_end_read(LptEnd *end);
 
@@ -323,9 +334,9 @@ typedef struct LptArea {
 
 /*
  * Returns where a load will write: the area with this number, from 0, of the oldest released
- * request that wasn't read yet. If lpt_end_execute then carries it out (applied->kind is
- * LPT_APPLIED_CARRIED_OUT), its areas were written exactly there, in their order; otherwise none
- * was.
+ * request that wasn't read yet. If lpt_end_execute carries the load out (applied->kind is
+ * LPT_APPLIED_CARRIED_OUT), it writes its areas exactly there, in their order. Otherwise it writes
+ * none.
  * LPT_DONE, and *area is written; LPT_E_NO_JOB, as always on ground; LPT_E_NOTHING if the request
  * is no load, has no such area, or the area's checksum is wrong.
  */
@@ -333,11 +344,11 @@ LPT_MUST_USE
 uint32_t lpt_end_asked_area(LptEnd *end, size_t number, LptArea *area);
 
 /*
- * Drops the oldest released request that wasn't read yet, in place of lpt_end_read: it is never
- * executed. An empty request takes its place. When its turn comes, still call lpt_end_execute, or
- * lpt_end_execute_given with no octets: applied->kind is then LPT_APPLIED_SILENT, and there is no
- * report. lpt_end_drop_read drops a request that was read. Less is proved about ends that drop
- * requests: docs/C.md says what.
+ * Drops the oldest released request that wasn't read yet, in place of lpt_end_read. The request is
+ * never executed. An empty request takes its place: when its turn comes, still call
+ * lpt_end_execute, or lpt_end_execute_given with no octets. Then applied->kind is
+ * LPT_APPLIED_SILENT, and there is no report. lpt_end_drop_read drops a request that was read. Less
+ * is proved about ends that drop requests: docs/C.md says what.
  * LPT_DONE; LPT_E_NO_JOB, as always on ground; LPT_E_ALLOCATION.
  */
 LPT_MUST_USE
@@ -390,7 +401,7 @@ uint32_t lpt_end_new_sized(LptEnd **end, const LptConfig *config, const LptSize 
                            size_t sizes_len);
 
 /*
- * Restores such an end from a state, as lpt_end_resume does for other ends.
+ * Restores from its state an end that lpt_end_new_sized made, as lpt_end_resume restores others.
  * LPT_DONE, and *end is its address; LPT_E_RANGE for another mode; LPT_E_CONFIG_APID to
  * LPT_E_CONFIG_OUTGOING; LPT_E_MEMORIES as with lpt_end_new_sized; then what lpt_end_resume returns
  * for a wrong state; LPT_E_ALLOCATION.
@@ -412,7 +423,7 @@ typedef struct LptAccess {
  * access's number from 0. A load writes its areas, and a dump or a check reads its areas, in the
  * order of the request. Each access lies within its memory. A request with a fault makes none.
  * LPT_DONE, and *access is written; LPT_E_NO_JOB, as always on ground; LPT_E_NOT_READ;
- * LPT_E_NOTHING if there are no more.
+ * LPT_E_NOTHING if it has no access of this number.
  */
 LPT_MUST_USE
 uint32_t lpt_end_access(LptEnd *end, size_t number, LptAccess *access);
@@ -430,25 +441,26 @@ uint32_t lpt_end_access_octets(LptEnd *end, size_t number, uint8_t *out, size_t 
 /*
  * Executes the oldest request, which must have been read, if the caller has the memories, and
  * returns what became of it. The caller passes the octets that the request reads, in the order of
- * its accesses. If it reads nothing, these are none. The caller has written what the request writes
- * before this call, or has copied it and writes it before it executes another request: docs/C.md
- * says how either order survives a reset. The reports wait to be sent, as with lpt_end_execute.
+ * its accesses; if it reads nothing, pass a length of 0. What the request writes, the caller has
+ * written before this call. Or it has copied that, and writes it before it executes another
+ * request. docs/C.md says how either order survives a reset. The reports wait to be sent, as with
+ * lpt_end_execute.
  * LPT_DONE, and *applied is written; LPT_E_ELSEWHERE if the end has the memories; LPT_E_NO_JOB, as
- * always on ground; LPT_E_NOT_READ; LPT_E_READ_LENGTH if the request reads more octets than these,
- * or fewer; LPT_E_UNSENT; LPT_E_ALLOCATION.
+ * always on ground; LPT_E_NOT_READ; LPT_E_READ_LENGTH if the request reads more or fewer octets
+ * than the caller passed; LPT_E_UNSENT; LPT_E_ALLOCATION.
  */
 LPT_MUST_USE
 uint32_t lpt_end_execute_given(LptEnd *end, const uint8_t *octets, size_t octets_len,
                                LptApplied *applied);
 
 /*
- * Refuses the oldest request, which must have been read, in place of executing it: it is never
- * executed, and a report that it failed, with the failure code of this number (LptFailure, 1 to 8),
- * waits to be sent to its source. *applied is as after an execution that failed with that code. Use
- * it if the request can't be carried out here: it reads more than the program can at once, or its
- * memory can't be read or written. If some of it was written, write the old octets back first. If
- * the message is no telecommand of the end's APID, there is no report. Less is proved about
- * programs that refuse or drop requests themselves: docs/C.md says what.
+ * Refuses the oldest request, which must have been read, in place of executing it. The request is
+ * never executed. A report to its source that it failed waits to be sent, with the failure code of
+ * this number (LptFailure, 1 to 8). If the message is no telecommand of the end's APID, there is no
+ * report. *applied is as after an execution that failed with that code.
+ * Use this call if the request reads more than the program can at once, or if its memory can't be
+ * read or written. If some of the request was written, write the old octets back first. Less is
+ * proved about programs that refuse or drop requests themselves: docs/C.md says what.
  * LPT_DONE, and *applied is written; LPT_E_RANGE for another number; LPT_E_NO_JOB, as always on
  * ground; LPT_E_NOT_READ; LPT_E_UNSENT; LPT_E_ALLOCATION.
  */
@@ -456,9 +468,9 @@ LPT_MUST_USE
 uint32_t lpt_end_refuse(LptEnd *end, uint16_t number, LptApplied *applied);
 
 /*
- * Drops the oldest request, which must have been read, in place of executing it: it is never
- * executed, and there is no report of this (lpt_end_refuse makes one). If some of it was written,
- * write the old octets back first.
+ * Drops the oldest request, which must have been read, in place of executing it. The request is
+ * never executed, and there is no report of this (lpt_end_refuse makes one). If some of the request
+ * was written, write the old octets back first. Less is proved about such programs too.
  * LPT_DONE; LPT_E_NO_JOB, as always on ground; LPT_E_NOT_READ.
  */
 LPT_MUST_USE
@@ -476,11 +488,11 @@ uint32_t lpt_end_tick(LptEnd *end);
 LPT_MUST_USE
 uint32_t lpt_end_tick_many(LptEnd *end, uint32_t ticks);
 
-/* Sets the clock back by several ticks, and with it each reception's `due`, so that each is due
-   after as many ticks as before. Everything else stays. With this call the clock need never end. It
-   can go back by at most its value, and, if receptions are open, by at most the least `due` of an
-   LptReception less the timeout: no tick at which a reception last got a part may go below 0.
-   LPT_DONE, also for 0 ticks; LPT_E_CLOCK_START if it would go back further. */
+/* Sets the clock back by several ticks, so that it never reaches its end. Each reception's `due`
+   goes back with it: each is due after as many ticks as before. Everything else stays.
+   The clock may not go below 0, and neither may the tick at which an open reception last got a
+   part. That tick is the reception's `due` (LptReception) less the timeout.
+   LPT_DONE, also for 0 ticks; LPT_E_CLOCK_START if one of them would go below 0. */
 LPT_MUST_USE
 uint32_t lpt_end_rebase(LptEnd *end, uint32_t ticks);
 
@@ -492,9 +504,9 @@ uint32_t lpt_end_rebase(LptEnd *end, uint32_t ticks);
  *      at the sender.
  *   3. This call returns LPT_DONE at the receiver's end.
  *   4. It returns LPT_DONE at the sender's end.
- * The call checks only the names of its own end, not the other end or packets that wait to be
- * sent. If the report that the old message was aborted comes late, it closes the next message of
- * that name at the sender.
+ * The call checks only the names of its own end. It checks neither the other end nor packets that
+ * wait to be sent. If the report that the old message was aborted comes late, it closes the next
+ * message of that name at the sender.
  * LPT_DONE, also if the name is free already; LPT_E_RANGE for another direction; LPT_E_STILL_OPEN
  * if a message or a reception of this name is open in this direction.
  */
@@ -517,8 +529,8 @@ uint32_t lpt_end_name(LptEnd *end, uint32_t direction, const LptName *name, uint
  * Returns the first closed name of a direction from this one on, and changes nothing. Names are
  * ordered by source, and then by identifier. To list all, begin with {0, 0}, and go on with the
  * name after the last one. LPT_DONE, and *name is it; LPT_E_RANGE for another direction;
- * LPT_E_NOTHING if no name is closed from there on. Its time grows with the names in use: with
- * 65,536 it takes half a millisecond if they have one source, and 4 ms if each has its own.
+ * LPT_E_NOTHING if no name is closed from there on. The more names are in use, the longer the call
+ * takes: with 65,536 half a millisecond if they have one source, and 4 ms if each has its own.
  */
 LPT_MUST_USE
 uint32_t lpt_end_closed(LptEnd *end, uint32_t direction, const LptName *from, LptName *name);
@@ -527,8 +539,8 @@ uint32_t lpt_end_closed(LptEnd *end, uint32_t direction, const LptName *from, Lp
 typedef struct LptView {
     uint32_t clock;    /* in ticks */
     uint32_t due;      /* 1 if lpt_end_expire has a reception to give up, otherwise 0 */
-    uint64_t next_due; /* the clock's value at which the first reception is due; 0 if none is
-                          open */
+    uint64_t next_due; /* the clock's value at which the first reception is due; 0 if no reception
+                          is open */
     size_t outgoing;   /* packets that wait to be sent */
     size_t unread;     /* requests that weren't read yet */
     size_t requests;   /* requests that weren't executed yet, read or not */
@@ -570,8 +582,8 @@ typedef struct LptSender {
     size_t len;     /* how many octets it has */
 } LptSender;
 
-/* Returns a message that is open for sending by its number from 0, in the same order. LPT_DONE, and
-   *sender is written; LPT_E_NOTHING if no more are open. */
+/* Returns a message that is open for sending, by its number from 0; they are ordered as receptions
+   are. LPT_DONE, and *sender is written; LPT_E_NOTHING if no more are open. */
 LPT_MUST_USE
 uint32_t lpt_end_sender(LptEnd *end, size_t number, LptSender *sender);
 
@@ -589,13 +601,13 @@ uint32_t lpt_end_restart(LptEnd *end);
 
 /*
  * Copies the state of the end to the front of a buffer, and leaves the rest of the buffer as it
- * was. The state has the end's side, APID, part size and mode, the names that are closed, those of
- * messages that are open for sending, the clock, and how often the end was restarted. The names of
- * open receptions aren't in it. lpt_end_memory copies memories. docs/FORMATS.md has the octets, and
- * docs/C.md says when to save them. The call allocates nothing.
+ * was. The state has the end's side, APID, part size and mode, the clock, and how often the end was
+ * restarted. It has the names that are closed, and those of messages that are open for sending, but
+ * not those of open receptions. It has no memories: lpt_end_memory copies them. docs/FORMATS.md has
+ * the octets, and docs/C.md says when to save them. The call allocates nothing.
  * LPT_DONE; LPT_E_ROOM. At LPT_DONE and LPT_E_ROOM *needed is the state's length: 45, and 6 for
- * each run of these names: identifiers of one source and direction that follow one another. There
- * are at most as many runs as such names, and at most 32,768 of a source and direction.
+ * each run of names in it. A run has identifiers of one source and direction that follow one
+ * another. There are at most as many runs as names, and at most 32,768 of a source and direction.
  */
 LPT_MUST_USE
 uint32_t lpt_end_state(LptEnd *end, uint8_t *out, size_t out_len, size_t *needed);

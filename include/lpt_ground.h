@@ -10,17 +10,19 @@
  *   - LPT_STEP_SEND: copy the packet by lpt_ground_outgoing, send it, and call lpt_ground_sent,
  *     with no other call of the pass in between. Then call lpt_ground_packet for each packet that
  *     came, before you ask again;
- *   - LPT_STEP_LISTEN: wait for a packet, and pass it to lpt_ground_packet. If none comes for so
- *     long that none can be on its way any more, for example for a second, call lpt_ground_quiet:
- *     then a new round begins. If you call it too early, it costs packets, and counts as a wait for
- *     `tries`; nothing that is proved depends on it;
+ *   - LPT_STEP_LISTEN: wait for a packet, and hand it to lpt_ground_packet. If none comes for so
+ *     long that none can be on its way any more, for example for a second, call lpt_ground_quiet.
+ *     Then a new round begins. If you call it too early, packets are sent again for nothing, and it
+ *     still counts as one of the waits that LptJob's `tries` limits. Nothing that is proved depends
+ *     on when you call it;
  *   - any other step: the pass is at its end.
  *
- * Each call returns LPT_DONE, or the number of the first thing that is wrong, in the order of its
- * comment. If it isn't LPT_DONE, the pass is as it was, and the call has written nothing through a
- * pointer but what its comment says. LPT_E_ALLOCATION (out of memory) comes last. The caller
- * promises what include/lpt_end.h says about addresses, threads and memory. docs/C.md says what is
- * proved about a pass that ends with LPT_STEP_COMPLETED, and what is assumed.
+ * Each call returns LPT_DONE, or the number of the first thing that is wrong. Its comment lists
+ * these numbers in the order in which it tests them, and LPT_E_ALLOCATION (out of memory) last. If
+ * a call doesn't return LPT_DONE, the pass is as it was, and the call has written nothing through a
+ * pointer but what its comment says. As in include/lpt_end.h, the comments leave out LPT_E_EMPTY.
+ * The caller promises what include/lpt_end.h says about addresses, threads and memory. docs/C.md
+ * says what is proved about a pass that ends with LPT_STEP_COMPLETED, and what is assumed.
  */
 #ifndef LPT_GROUND_H
 #define LPT_GROUND_H
@@ -43,16 +45,16 @@ enum LptJobKind { LPT_JOB_LOAD = 1, LPT_JOB_DUMP = 2, LPT_JOB_CHECK = 3 };
 typedef struct LptJob {
     uint32_t kind;      /* an LptJobKind */
     uint8_t memory;     /* the memory's identifier */
-    uint8_t flags;      /* acknowledgement flags of the requests. For loads 8, so that completion is
-                           reported; or 10 (8 and 2), so that a report of the start settles a load
-                           too. For dumps and checks 0. Other flags up to 15 may be added */
+    uint8_t flags;      /* acknowledgement flags of the requests. Loads need 8, so that completion
+                           is reported. With 10 (8 and 2) a report of the start settles a load too.
+                           Dumps and checks need none. Other flags up to 15 may be added */
     uint16_t apid;      /* of all packets, 0 to 2046 */
     uint16_t source;    /* the job's own: reports go to it. No other request may have had it, unless
                            this job continues one that was stopped */
     uint16_t count;     /* the first request's sequence count, 0 to 16,383 */
-    uint32_t part_size; /* of the link: for loads 4 to 1024, for dumps 7 to 1024, for checks 6 to
-                           1024, because a report must fit one packet. A request loads at most
-                           part_size octets, or dumps part_size - 6, or checks 4,000 */
+    uint32_t part_size; /* of the link, up to 1024. At least 4 for loads, 7 for dumps, and 6 for
+                           checks, because a report must fit one packet. A request loads at most
+                           part_size octets, dumps at most part_size - 6, or checks at most 4,000 */
     uint32_t tries;     /* at least 1: after so many waits in a row that settled nothing the pass
                            is given up */
 } LptJob;
@@ -65,12 +67,12 @@ typedef struct LptPlace {
 
 /*
  * Makes the pass of a job of these places. The octets of a load are in `content`, place after
- * place, and are copied; a dump and a check don't read `content`. Each place is cut into requests
- * of as many octets as LptJob says at part_size; the last one of a place has the rest. Requests are
- * numbered from 0 through all places.
+ * place, and are copied. Jobs of dumps and checks don't read `content`. Each place is cut into
+ * requests of as many octets as LptJob says at part_size; the last one of a place has the rest.
+ * Requests are numbered from 0 through all places.
  * LPT_DONE, and *pass is its address; LPT_E_RANGE for a number of the job that is out of its range,
- * and for flags of a load without 8; LPT_E_BAD_AREA for no place, and for one without octets or
- * with some behind the last address; LPT_E_LONG_JOB for more than 16,384 requests; LPT_E_RANGE if
+ * and for flags of a load without 8; LPT_E_BAD_AREA if there is no place, or one has no octets or
+ * has octets behind the last address; LPT_E_LONG_JOB for more than 16,384 requests; LPT_E_RANGE if
  * the content of a load isn't as long as its places together; LPT_E_BAD_AREA if two places of a
  * load share an address; LPT_E_ALLOCATION.
  */
@@ -83,9 +85,9 @@ void lpt_ground_free(LptGround *pass);
 
 /* ---- what it does next ---- */
 
-/* What a pass does next. From 3 on it is at its end. A later packet that settles a request may
-   still complete the pass. If such a packet comes after LPT_STEP_GIVEN_UP, lpt_ground_quiet begins
-   a new round. */
+/* What a pass does next. The steps from 3 on are ends. Even then a packet that settles a request
+   may complete the pass. If it comes after LPT_STEP_GIVEN_UP, lpt_ground_quiet begins a new
+   round. */
 enum LptStep {
     LPT_STEP_SEND = 1,      /* a packet is to be sent */
     LPT_STEP_LISTEN = 2,    /* a packet is to be awaited */
@@ -123,7 +125,7 @@ uint32_t lpt_ground_next(LptGround *pass, uint32_t *step);
 /*
  * Copies the packet that is to be sent next to the front of a buffer, and leaves the rest of the
  * buffer as it was. LPT_DONE; LPT_E_NOTHING if the next step isn't LPT_STEP_SEND; LPT_E_ROOM. At
- * LPT_DONE and LPT_E_ROOM *needed is the packet's length, at most part_size and 23. The packet
+ * LPT_DONE and LPT_E_ROOM *needed is the packet's length, at most part_size + 23. The packet
  * stays the next one until lpt_ground_sent, lpt_ground_quiet or lpt_ground_close, or until a packet
  * settles its request.
  */
@@ -138,21 +140,24 @@ uint32_t lpt_ground_sent(LptGround *pass);
 /* ---- what it hears ---- */
 
 /*
- * Takes a packet that came. Telemetry of the job's APID to its source settles an open request if it
- * reports that the request failed (TM[1,2], TM[1,4], TM[1,6] or TM[1,8]); of a load, if it reports
- * that it completed (TM[1,7]) or, if the flags have 2, started (TM[1,3]); of a dump or a check, if
- * it has the octets or the checksum that were asked for. Any other packet is ignored.
+ * Takes a packet that came. Telemetry of the job's APID to the job's source settles an open request
+ * if it is one of these:
+ *   - a report that the request failed: TM[1,2], TM[1,4], TM[1,6] or TM[1,8];
+ *   - for a load, a report that it completed, TM[1,7], or, if the flags have 2, that it started,
+ *     TM[1,3];
+ *   - for a dump or a check, a report with the octets or the checksum that were asked for.
+ * Any other packet is ignored.
  * LPT_DONE; LPT_E_ALLOCATION.
  */
 LPT_MUST_USE
 uint32_t lpt_ground_packet(LptGround *pass, const uint8_t *octets, size_t octets_len);
 
-/* Notes that no packet came while the program waited: a round begins, or the pass is given up (as
-   `tries` says). This round sends all open requests, and all of them again until it has sent at
-   least 8 packets (3 open requests make 9 packets); the first round, with which the pass begins,
-   sends each request once. If the pass is at its end, no round begins, except
-   after LPT_STEP_GIVEN_UP if a packet settled a request since the last call. It returns
-   LPT_DONE. */
+/* Notes that no packet came while the program waited. Then a round begins, or the pass is given up
+   (as `tries` says). The round sends all open requests, and all of them again until it has sent at
+   least 8 packets: for 3 open requests these are 9 packets. Only the first round, with which the
+   pass begins, sends each request just once. If the pass is at its end, no round begins, except
+   after LPT_STEP_GIVEN_UP if a packet settled a request since the last call of lpt_ground_quiet. It
+   returns LPT_DONE. */
 LPT_MUST_USE
 uint32_t lpt_ground_quiet(LptGround *pass);
 
@@ -165,8 +170,8 @@ uint32_t lpt_ground_close(LptGround *pass);
 /* How many requests a pass has, and what became of them. */
 typedef struct LptProgress {
     size_t requests;  /* all of them */
-    size_t completed; /* loads reported as completed (or, if the flags have 2, as started), dumps
-                         and checks that were answered */
+    size_t completed; /* loads reported as completed (or, if the flags have 2, as started), and
+                         dumps and checks that were answered */
     size_t failed;    /* requests reported as failed */
     size_t left;      /* open ones, which no report has settled */
 } LptProgress;
@@ -184,9 +189,9 @@ enum LptCodeUnread { LPT_CODE_UNREAD = 65536 };
 /* What became of a request. */
 typedef struct LptFate {
     uint32_t state; /* an LptFateState */
-    uint32_t code;  /* the report's failure code, an LptFailure or another; LPT_CODE_UNREAD if the
-                       report has none of 16 bits, or is of progress (TM[1,6]); 0 if the request
-                       didn't fail */
+    uint32_t code;  /* 0 if the request didn't fail; otherwise the report's failure code, an
+                       LptFailure or another; LPT_CODE_UNREAD if the report has no code of 16 bits,
+                       or is of progress (TM[1,6]) */
 } LptFate;
 
 /* Returns what became of a request, by its number from 0. LPT_DONE, and *fate is written;
@@ -196,10 +201,11 @@ uint32_t lpt_ground_fate(LptGround *pass, size_t number, LptFate *fate);
 
 /*
  * Copies the packet that settled a request, by the request's number, to the front of a buffer, and
- * leaves the rest of the buffer as it was. A program that keeps these packets may pass them to a
- * new pass of the same job after a restart, with the same source and count, and so continues where
- * it was. It may keep and pass all packets that came, too. A request that failed has no packet
- * here: if the report of its failure isn't passed, the new pass sends it again.
+ * leaves the rest of the buffer as it was. A program may keep these packets. After a restart it
+ * makes a new pass of the same job, with the same source and count, and hands them to it by
+ * lpt_ground_packet: so the job continues where it was. It may also keep and hand over all packets
+ * that came. A request that failed has no packet here. If the report of its failure isn't handed
+ * over, the new pass sends the request again.
  * LPT_DONE; LPT_E_NOTHING if there is no such request, or it is open or failed; LPT_E_ROOM. At
  * LPT_DONE and LPT_E_ROOM *needed is the packet's length.
  */
@@ -220,11 +226,11 @@ uint32_t lpt_ground_dumped(LptGround *pass, size_t number, uint8_t *out, size_t 
 /*
  * Returns whether the checksums that checks got are those of this content: the octets of the
  * places, one place behind the other, and nothing more. It returns LPT_DONE, and *agrees is 1 if
- * they are, otherwise 0, and also 0 while a check is open, or if one failed. A checksum has 16
- * bits, so about one differing area in 65,536 is taken for the same. And it is the CRC that packets
- * have, which is linear: damage inside one loaded area that passed its packet's checksum always
- * passes a check of that area. Only a dump compares octets. For a job of loads or dumps the result
- * says nothing.
+ * they are. It is 0 if they aren't, while a check is open, or if one failed. For a job of loads or
+ * dumps the result says nothing.
+ * A checksum has 16 bits, so about one differing area in 65,536 is taken for the same. And it is
+ * the same linear CRC as that of packets: damage inside one loaded area that passed its packet's
+ * checksum always passes a check of that area. Only a dump compares octets.
  */
 LPT_MUST_USE
 uint32_t lpt_ground_agrees(LptGround *pass, const uint8_t *content, size_t content_len,

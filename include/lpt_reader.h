@@ -8,17 +8,20 @@
  * lpt_reader_free frees it. In between the program passes octets to lpt_reader_feed, and then calls
  * lpt_reader_next until that returns LPT_E_MORE. After the last octets it calls lpt_reader_end, and
  * then lpt_reader_next until the item is LPT_ITEM_END. The items don't depend on how the archive
- * was cut into pieces. When lpt_reader_next has returned LPT_E_MORE, a reader holds fewer than
- * LPT_LOOKAHEAD + n octets, if the last piece had n. Its buffer doubles when it grows, so a pool
- * needs 4 * LPT_LOOKAHEAD + 6 * n; and more if the reader joins messages, because it keeps their
- * parts (lpt_reader_new_join).
+ * was cut into pieces.
  *
- * Each call returns LPT_DONE, or the number of the first thing that is wrong, in the order of its
- * comment. If it isn't LPT_DONE, the call has written nothing through a pointer but what its
- * comment says, and the reader is as it was, except that after LPT_E_MORE there is no last item,
- * and that lpt_reader_message, if memory runs out (LPT_E_ALLOCATION), loses its parts and goes on
- * behind the item. The caller promises what include/lpt_end.h says about addresses, threads and
- * memory.
+ * When lpt_reader_next has returned LPT_E_MORE, a reader holds fewer than LPT_LOOKAHEAD + n octets,
+ * if the last piece had n. Its buffer doubles when it grows, so a pool needs
+ * 4 * LPT_LOOKAHEAD + 6 * n octets. A reader that joins messages (lpt_reader_new_join) needs more,
+ * because it keeps their parts.
+ *
+ * Each call returns LPT_DONE, or the number of the first thing that is wrong. Its comment lists
+ * these numbers in the order in which it tests them. If a call doesn't return LPT_DONE, it has
+ * written nothing through a pointer but what its comment says, and the reader is as it was, with
+ * two exceptions. After LPT_E_MORE there is no last item. And if memory runs out
+ * (LPT_E_ALLOCATION), lpt_reader_message loses its parts and goes on behind the item. As in
+ * include/lpt_end.h, the comments leave out LPT_E_EMPTY. The caller promises what include/lpt_end.h
+ * says about addresses, threads and memory.
  */
 #ifndef LPT_READER_H
 #define LPT_READER_H
@@ -36,12 +39,12 @@ typedef struct LptReader LptReader;
 
 /*
  * Makes a reader of an archive, which reads from its beginning. If `layout_len` is 0, packets have
- * the profile's headers, with parts of `part_size` octets, 4 to 1024. Otherwise they are as this
+ * the profile's headers, with parts of `part_size` octets, 4 to 1024. Otherwise packets are as this
  * text of a layout file says, and `part_size` is ignored, because the text has its own. A text of
  * white space alone means the profile's headers, with parts of any size. The reader finds packets
  * by their checksums if both tables of the layout have one, otherwise by their lengths alone.
- * LPT_DONE, and *reader is its address; without a text LPT_E_RANGE for another part size; with one
- * LPT_E_LAYOUT if it isn't UTF-8 or means no layout (`lpt list --layout` says why);
+ * LPT_DONE, and *reader is its address; without a text LPT_E_RANGE for another part size; with a
+ * text LPT_E_LAYOUT if it isn't UTF-8 or means no layout (`lpt list --layout` says why);
  * LPT_E_ALLOCATION.
  */
 LPT_MUST_USE
@@ -64,15 +67,14 @@ uint32_t lpt_reader_end(LptReader *reader);
 
 /* ---- what they contain ---- */
 
-/* What an item is. END: the archive's end. PACKET: a packet with a secondary header of the layout.
-   IDLE: an idle packet. FAULTY: a piece in step (lpt_find_piece) that fails a test of packets; or
-   a packet, in step or not, whose secondary header isn't one of the layout. `fault` of LptItem says
-   which test it fails. */
+/* What an item is. */
 enum LptItemKind {
-    LPT_ITEM_END = 0,
-    LPT_ITEM_PACKET = 1,
-    LPT_ITEM_IDLE = 2,
-    LPT_ITEM_FAULTY = 3
+    LPT_ITEM_END = 0,    /* the archive's end */
+    LPT_ITEM_PACKET = 1, /* a packet with a secondary header of the layout */
+    LPT_ITEM_IDLE = 2,   /* an idle packet */
+    LPT_ITEM_FAULTY = 3  /* a piece in step (lpt_find_piece) that fails a test of packets; or a
+                            packet, in step or not, whose secondary header isn't one of the layout.
+                            `fault` of LptItem says which test it fails */
 };
 
 /* LptItem's `part` is an LptPartKind, or this if the body should be a part's but can't be read as
@@ -83,7 +85,7 @@ enum { LPT_PART_UNREAD = 4 };
    place, stray and length. */
 typedef struct LptItem {
     uint64_t place;   /* how many octets of the archive are in front of it, at most 2^64 - 1 */
-    uint64_t stray;   /* how many of these, right in front of it, are no packet */
+    uint64_t stray;   /* how many of these, right in front of the item, are no packet */
     size_t length;    /* how many octets it has; the end has none */
     size_t time_at;   /* the time's offset in the item, if it has one */
     size_t body_at;   /* the offset in the item of what is behind the secondary header */
@@ -91,8 +93,8 @@ typedef struct LptItem {
     size_t part_len;  /* how many octets the part has, at the body's end */
     uint32_t kind;    /* an LptItemKind */
     uint32_t fault;   /* of LPT_ITEM_FAULTY, an LptFault: LPT_E_SHORT to LPT_E_CHECKSUM, or
-                         LPT_E_PUS_VERSION or LPT_E_SHORT_HEADER. Only with the last two it also
-                         has packet, apid and count */
+                         LPT_E_PUS_VERSION or LPT_E_SHORT_HEADER. Only an item with one of these
+                         last two also has packet, apid and count */
     uint32_t packet;  /* LPT_PACKET_TM or LPT_PACKET_TC */
     uint32_t counter; /* the message type counter */
     uint32_t user;    /* the source ID of a telecommand, the destination ID of telemetry */
@@ -110,7 +112,7 @@ typedef struct LptItem {
 
 /*
  * Returns the next item of the archive, and goes on behind it. LPT_DONE, and *item is written;
- * LPT_E_MORE if the item depends on octets that haven't been taken yet, and *item stays as it was.
+ * LPT_E_MORE if the item depends on octets that haven't been taken yet: then *item stays as it was.
  * At the end each call returns LPT_DONE, and the item's kind is LPT_ITEM_END.
  */
 LPT_MUST_USE
@@ -144,27 +146,26 @@ uint32_t lpt_reader_date(LptReader *reader, uint8_t *out, size_t out_len, size_t
  * archive is cut by the layout of that direction; everything else is as with lpt_reader_new. If
  * `any` is 0, a message is returned only if it is a packet of the direction. If it is 1, every
  * message is returned, as with --any.
- * LPT_E_RANGE for another direction or another `any`; otherwise what lpt_reader_new returns.
+ * LPT_E_RANGE for a direction or an `any` that isn't 0 or 1; otherwise what lpt_reader_new returns.
  */
 LPT_MUST_USE
 uint32_t lpt_reader_new_join(LptReader **reader, uint32_t direction, uint16_t apid, uint32_t any,
                              uint32_t part_size, const uint8_t *layout, size_t layout_len);
 
-/* END: the archive ends. NONE: nothing happened. WHOLE: a message is whole. MISSING: the parts of
-   an incomplete message are given up. OVERTAKES: parts are given up, and another message is whole.
-   UNFIT (only if `any` is 0): a message is whole, but isn't returned, because it is no packet of
-   the direction, or, without checksums, may have parts of several messages: `fault` says which. */
+/* What happened to messages with an item. */
 enum LptMessageKind {
-    LPT_MESSAGE_END = 0,
-    LPT_MESSAGE_NONE = 1,
-    LPT_MESSAGE_WHOLE = 2,
-    LPT_MESSAGE_MISSING = 3,
-    LPT_MESSAGE_OVERTAKES = 4,
-    LPT_MESSAGE_UNFIT = 5
+    LPT_MESSAGE_END = 0,       /* the archive ends */
+    LPT_MESSAGE_NONE = 1,      /* nothing happened */
+    LPT_MESSAGE_WHOLE = 2,     /* a message is whole */
+    LPT_MESSAGE_MISSING = 3,   /* the parts of an incomplete message are given up */
+    LPT_MESSAGE_OVERTAKES = 4, /* parts are given up, and another message is whole */
+    LPT_MESSAGE_UNFIT = 5      /* only if `any` is 0: a message is whole, but isn't returned. Either
+                                  it is no packet of the direction; or packets have no checksum, and
+                                  it may have parts of several messages. `fault` says which */
 };
 
-/* What happened with the next item. A field that its kind doesn't have is 0, and `first` 2^64 -
-   1. */
+/* What happened with the next item. A field that its kind doesn't have is 0; only `first` is
+   2^64 - 1 then. */
 typedef struct LptMessage {
     uint64_t place;     /* the place of the packet with which this happens; at the end, the
                            archive's length */
@@ -184,27 +185,28 @@ typedef struct LptMessage {
 /*
  * Reads the next item of the archive, a packet or octets that fail a test, and returns what becomes
  * of messages with it. At the end each call returns what is left of one more name, in the order of
- * users and identifiers, and after the last name LPT_MESSAGE_END.
+ * `user`, then of `id`. After the last name it returns LPT_MESSAGE_END.
  * LPT_DONE, and *message is written; LPT_E_NOTHING if lpt_reader_new made the reader; LPT_E_MORE if
  * the item depends on octets that haven't been taken yet; LPT_E_ALLOCATION: then the joined parts
- * are lost, and each later call of lpt_reader_message returns this too.
+ * are lost, and each later call of lpt_reader_message returns LPT_E_ALLOCATION too.
  */
 LPT_MUST_USE
 uint32_t lpt_reader_message(LptReader *reader, LptMessage *message);
 
 /*
- * Copies the message of the last LPT_DONE of lpt_reader_message to the front of a buffer, and
- * leaves the rest of the buffer as it was. LPT_DONE; LPT_E_NOTHING if there was none, or if its
- * kind was neither WHOLE nor OVERTAKES; LPT_E_ROOM. At LPT_DONE and LPT_E_ROOM *needed is how many
- * octets the message has, as LptMessage's length.
+ * Copies the message that lpt_reader_message returned when it last returned LPT_DONE to the front
+ * of a buffer, and leaves the rest of the buffer as it was. LPT_DONE; LPT_E_NOTHING if that never
+ * happened, or if the kind was neither WHOLE nor OVERTAKES; LPT_E_ROOM. At LPT_DONE and LPT_E_ROOM
+ * *needed is how many octets the message has, as LptMessage's length.
  */
 LPT_MUST_USE
 uint32_t lpt_reader_message_octets(LptReader *reader, uint8_t *out, size_t out_len, size_t *needed);
 
 /*
- * Returns whether the part of this number, from 1, is missing (1 or 0) from the parts that the last
- * LPT_DONE of lpt_reader_message gave up. Ask up to the number `last`, or up to `highest` if `last`
- * is 0. Above `highest` the result is always 1.
+ * Returns whether a part is missing from those that lpt_reader_message gave up when it last
+ * returned LPT_DONE: *missing is 1 if it is, otherwise 0. Parts are numbered from 1. Ask up to the
+ * number `last` of LptMessage, or up to `highest` if `last` is 0. Above `highest` *missing is
+ * always 1.
  * LPT_DONE; LPT_E_NOTHING if no parts were given up; LPT_E_RANGE for number 0.
  */
 LPT_MUST_USE
@@ -222,29 +224,29 @@ typedef struct LptNamed {
     uint32_t fault;    /* LPT_E_RANGE if it ends behind the last address, 2^32 - 1; otherwise
                           LPT_E_CHECKSUM if the message has its octets, and their checksum is
                           wrong; otherwise 0 */
-    uint16_t checksum; /* the checksum that the message has of them, or 0 */
+    uint16_t checksum; /* the checksum of its octets that the message has, or 0 */
     uint8_t memory;
     uint8_t areas;     /* how many areas the message names */
 } LptNamed;
 
 /*
  * Returns what `lpt list` says of the areas that a message names: the memory, how many areas there
- * are, and address and length of the first. The octets behind that aren't read; the rest of *first
- * is 0. Pass a packet of the reader's layout: the octets of an item, or of a message that was
- * joined. The result doesn't depend on what the reader was fed.
- * LPT_DONE, and *first is written; of octets that fail a test, what LptItem has as fault;
- * LPT_E_NOTHING if they name no area.
+ * are, and address and length of the first. The octets behind these fields aren't read, and the
+ * rest of *first is 0. Pass a packet of the reader's layout: the octets of an item, or of a message
+ * that was joined. The result doesn't depend on what the reader was fed.
+ * LPT_DONE, and *first is written; for octets that fail a test, the number that LptItem has as
+ * `fault`; LPT_E_NOTHING if they name no area.
  */
 LPT_MUST_USE
 uint32_t lpt_reader_areas(LptReader *reader, const uint8_t *octets, size_t octets_len,
                           LptNamed *first);
 
 /*
- * Returns one of the areas that a message names, by its number from 0. `lpt extract` takes those of
- * dump reports whose `fault` is 0 (lpt_reader_lay).
- * LPT_DONE, and *area is written; of octets that fail a test, what LptItem has as fault;
- * LPT_E_NOTHING if they are no such message; LPT_E_NO_REPORT if its body isn't exactly the areas
- * that it announces; LPT_E_RANGE if it has no area of this number.
+ * Returns one of the areas that a message names, by its number from 0. `lpt extract` takes those
+ * areas of dump reports whose `fault` is 0 (lpt_reader_lay).
+ * LPT_DONE, and *area is written; for octets that fail a test, the number that LptItem has as
+ * `fault`; LPT_E_NOTHING if they are no message that names areas; LPT_E_NO_REPORT if its body isn't
+ * exactly the areas that it announces; LPT_E_RANGE if it has no area of this number.
  */
 LPT_MUST_USE
 uint32_t lpt_reader_area(LptReader *reader, const uint8_t *octets, size_t octets_len, size_t number,
@@ -260,33 +262,30 @@ typedef struct LptImage {
     uint8_t marks; /* 0; or 1, to write a 1 in place of each octet */
 } LptImage;
 
-/* What a message is for an image. OTHER: no dump report. PART: a part of a message of the APID,
-   which may be a dump report. APID: a dump report, or a part, of another APID. UNREAD: a dump
-   report whose body can't be read. MEMORY: a dump report of another memory. AREAS: a dump report of
-   this memory. */
+/* What a message is for an image. */
 enum LptLaidKind {
-    LPT_LAID_OTHER = 0,
-    LPT_LAID_PART = 1,
-    LPT_LAID_APID = 2,
-    LPT_LAID_UNREAD = 3,
-    LPT_LAID_MEMORY = 4,
-    LPT_LAID_AREAS = 5
+    LPT_LAID_OTHER = 0,  /* no dump report */
+    LPT_LAID_PART = 1,   /* a part of a message of the APID, which may be a dump report */
+    LPT_LAID_APID = 2,   /* a dump report, or a part, of another APID */
+    LPT_LAID_UNREAD = 3, /* a dump report whose body can't be read */
+    LPT_LAID_MEMORY = 4, /* a dump report of another memory */
+    LPT_LAID_AREAS = 5   /* a dump report of this memory */
 };
 
 /* What was laid of a message. */
 typedef struct LptLaid {
-    uint64_t end;    /* the address behind the area that ends last, of those that are taken; 0 if
-                        none is */
+    uint64_t end;    /* the address behind the taken area that ends last; 0 if none is taken */
     size_t number;   /* at APID and MEMORY the other APID or memory; at UNREAD how many octets the
                         body has; otherwise 0 */
     uint32_t kind;   /* an LptLaidKind */
-    uint32_t passed; /* how many areas aren't taken: lpt_reader_area says why; at UNREAD 1 */
+    uint32_t passed; /* how many areas aren't taken (lpt_reader_area says why); at UNREAD 1 */
 } LptLaid;
 
 /*
- * Lays the areas of a message over an image, if the message is a dump report of the memory and the
- * APID. Pass the octets of an item, or of a message that was joined. The call lays the areas that
- * `lpt extract --at` takes. Later areas win, and octets in front of `start` are left out.
+ * Lays the areas of a message over an image: it writes their octets where their addresses stand in
+ * the image. It does so if the message is a dump report of the memory and the APID. Pass the octets
+ * of an item, or of a message that was joined. The call lays the areas that `lpt extract --at`
+ * takes. Later areas win, and octets in front of `start` are left out.
  *
  * To make the image that `lpt extract --at` writes:
  *   1. Make the reader by lpt_reader_new_join for LPT_DIRECTION_DOWN; or by lpt_reader_new, if both
@@ -301,8 +300,8 @@ typedef struct LptLaid {
  *      over a buffer of zeros: a gap stays 0.
  *
  * The result doesn't depend on what the reader was fed.
- * LPT_DONE; LPT_E_ROOM if `image_len` is less than `end` - `start`, and the image is as it was. At
- * both *laid is written.
+ * LPT_DONE; LPT_E_ROOM if `image_len` is less than `end` - `start`: then the image is as it was. At
+ * LPT_DONE and LPT_E_ROOM *laid is written.
  */
 LPT_MUST_USE
 uint32_t lpt_reader_lay(LptReader *reader, const uint8_t *octets, size_t octets_len,

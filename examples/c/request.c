@@ -22,7 +22,7 @@ static uint8_t image[OCTETS];
 static void print_report(const uint8_t *packet, size_t len) {
     LptTm tm = {{0, 0, 0, 0, 0, 0, 0, 0}, 0, 0};
     LptReport report = {0, 0, 0};
-    if (lpt_read_tm(packet, len, &tm) == LPT_DONE &&
+    if (lpt_read_tm(packet, len, &tm) == LPT_DONE && tm.head.service == 1 &&
         lpt_read_report(tm.head.subtype, packet + tm.at, tm.len, &report) == LPT_DONE) {
         printf("request %08x: report %u, code %u\n", (unsigned)report.request,
                (unsigned)tm.head.subtype, (unsigned)report.code);

@@ -48,7 +48,8 @@ typedef struct Freeing {
 uint32_t freeing_turn(const Freeing *it, uint32_t direction, const LptName *name);
 
 /* Takes a FINISHED for a name that this end receives. Returns whether to answer FREED, with the
-   same turn, once this and the end's state are saved: not while a reception of the name is open. */
+   same turn, once this and the end's state are saved: not while a reception of the name is open, and
+   never if FREEING_NAMES other names, of both directions together, have turns: then raise it. */
 bool freeing_finished(Freeing *it, LptEnd *end, uint32_t direction, const LptName *name,
                       uint32_t turn);
 
