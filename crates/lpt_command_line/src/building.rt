@@ -35,8 +35,9 @@ Examples:
 Statuses:
   0  everything was done
   1  something was refused, failed, differs, is open or isn't whole, nothing was found
-     (but by list), or octets are no packet (chart, pass, ground --resync, list unless
-     --strict, and join if packets have a checksum, skip them)
+     (except in list, which then ends with 0), or octets are no packet (except in chart,
+     pass, ground --resync, list without --strict, and join of packets with a checksum,
+     which skip them)
   2  the command line, a line of the script (lint and shell: 1), HEX, the configuration,
      a layout or a list of patches can't be read
   3  a file can't be read or written, or is in use or of another job, memory ran out,
