@@ -4,7 +4,7 @@ ghost use Rattle.std.specs.Prelude.{◌≡◌, IfOk, None, option_map};
 
 use crate::machine::LastingFiles;
 use lpt_command_line::SpacecraftWords;
-use lpt_io::{Failure, Fault, tell_end};
+use lpt_io::{Failure, Fault, Status, tell_end};
 use lpt_spacecraft::{KeepFault, KeptFiles, Spacecraft, WholeFile, save_one};
 
 /// A file of the machine, which is written whole, or not at all, and forced to the disk.
@@ -60,24 +60,44 @@ pub fn keep_failure<R: LastingFiles>(files: KeptFiles<MachineFile<'_, R>>) -> Fa
     }
 }
 
-/// Writes each memory into its file, also if another couldn't be written, and tells of each that
-/// couldn't but the last.
+/// Writes each memory into its file at the end of a run, also if another couldn't be written. The
+/// result is how the run ended, or the last failure to write a memory. It reports the failures
+/// before that one. A failure with which the run itself ended isn't reported again.
 ///
-/// Errors: that of the last one that couldn't be written.
+/// Errors: that with which the run ended, if each other memory was written; otherwise that of the
+/// last memory that couldn't be written.
 pub fn save_all(
     rt: &(impl LastingFiles + Eprint),
     craft: &Spacecraft,
     words: &SpacecraftWords<'_>,
-) -> Result<(), Failure> {
-    let mut saved = Ok(());
+    ended: Result<Status, Failure>,
+) -> Result<Status, Failure> {
+    let mut last = None;
     for (id, path) in &words.memories {
         let mut file = MachineFile { rt, path: *path };
-        if let Err(failure) = save_one(&mut file, craft, *id) {
-            if let Err(before) = saved {
-                tell_end(rt, Err(before));
+        match save_one(&mut file, craft, *id) {
+            Err(failure) if !is_how_it_ended(&ended, &failure) => {
+                if let Some(before) = last {
+                    tell_end(rt, Err(before));
+                }
+                last = Some(failure);
             }
-            saved = Err(failure);
+            _ => {}
         }
     }
-    saved
+    match last {
+        None => ended,
+        Some(failure) => {
+            tell_end(rt, ended);
+            Err(failure)
+        }
+    }
+}
+
+// Whether a run ended with this failure.
+fn is_how_it_ended(ended: &Result<Status, Failure>, failure: &Failure) -> bool {
+    match ended {
+        Ok(_) => false,
+        Err(other) => failure.reads_like(other),
+    }
 }

@@ -11,9 +11,7 @@ use crate::memories::memories_of;
 use crate::wires::{Wires, serve_kept};
 use lpt_command_line::{SettingWords, SpacecraftWords};
 use lpt_events::Config;
-use lpt_io::{
-    Failure, Fault, Machine, Status, file_behind, octets_from, open_input, settings_of, tell_end,
-};
+use lpt_io::{Failure, Fault, Machine, Status, file_behind, octets_from, open_input, settings_of};
 use lpt_memory::Memories;
 use lpt_spacecraft::Spacecraft;
 use std::alloc::{AllocError, Global};
@@ -193,13 +191,7 @@ where
     if !words.save {
         return ended;
     }
-    match save_all(rt, craft, words) {
-        Ok(()) => ended,
-        Err(failure) => {
-            tell_end(rt, ended);
-            Err(failure)
-        }
-    }
+    save_all(rt, craft, words, ended)
 }
 
 // A spacecraft at which nothing has happened.

@@ -45,6 +45,16 @@ impl Failure {
             place: None,
         }
     }
+
+    /// Whether the same is reported of it as of another one.
+    pub fn reads_like(&self, other: &Self) -> bool {
+        let has_its_place = match (&self.place, &other.place) {
+            (Some(place), Some(others)) => place.as_str() == others.as_str(),
+            (None, None) => true,
+            (Some(_), None) | (None, Some(_)) => false,
+        };
+        self.fault == other.fault && self.quiet == other.quiet && has_its_place
+    }
 }
 
 impl From<Fault> for Failure {
