@@ -17,7 +17,7 @@ from ._layouts import Headers, cut_by, headers_of
 from ._library import Given, Octets, Room, has_octets, number
 from ._listing import is_whole, items_of
 from ._readers import UNREAD, News, Reader, first_area, joiner, step, told_by
-from .faults import BY_NUMBER, Empty, Fault, More, raise_fault
+from .faults import BY_NUMBER, Fault, More, raise_fault
 from .images import Image, Picture
 from .joining import Counts, warn
 from .kinds import Direction, ItemKind, PacketKind, PartKind
@@ -267,13 +267,14 @@ class Archive(Handle):
         warns of another APID's parts. Raises `Range`, `Allocation`, `faults.Empty`, and ValueError if
         something was read.
         """
-        direction, apid = Direction(direction), number(apid, 0xFFFF, "the APID")
+        direction, apid = Direction(direction), number(apid, GREATEST_APID, "the APID")
         text = self._started(direction)
         return self._joined(joiner(direction, apid, any, text, self._part_size), direction, apid)
 
     def missing(self) -> list[Missing]:
         """The messages that never became whole, or have a fault, as far as `messages` has read. What
         is left of each name at the end comes last, in the order of names."""
+        self._call(_nothing)
         return list(self._missing)
 
     def _joined(self, reader: Reader, direction: Direction, apid: int) -> Iterator[Message]:
@@ -403,8 +404,7 @@ class Archive(Handle):
     def _started(self, direction: Direction) -> bytes:
         """Begins to read by the packets of a direction, which say how the archive is cut: the
         layout's text."""
-        if self.is_closed:
-            raise_fault(Empty.number)
+        self._done(_nothing)
         if self._has_begun:
             raise ValueError("something was read of the archive")
         text, has_checksum = self._text, self._headers[1 - direction].has_checksum
@@ -417,6 +417,8 @@ class Archive(Handle):
 
     def _next(self, beside: Optional[Reader]) -> Listed:
         """What stands next; another reader is fed with what this one is."""
+        if not self._has_begun:
+            self._done(_nothing)
         self._has_begun, item = True, _library.LptItem()
         fault = self._call(_reader.lpt_reader_next, byref(item))
         while fault == More.number:

@@ -150,7 +150,8 @@ class End(Handle):
 
     Only the thread that made an end may use it, and it can't be copied or pickled. A call raises the
     first fault that applies, and leaves the end as it was; on a closed end it raises `Empty`.
-    Arguments of another type raise TypeError; what is no member of an enumeration raises ValueError.
+    Arguments of another type raise TypeError; what is no `Direction`, `Side`, `Mode` or `Failure`
+    raises ValueError.
     """
 
     __slots__ = ("config", "side", "_length", "_report")

@@ -61,7 +61,7 @@ class Checksum(Fault, ValueError):
 
 
 class PusVersion(Fault, ValueError):
-    """The header's PUS version isn't 2."""
+    """The header's PUS version isn't 2, or in an `Archive` isn't the layout's."""
 
     number = 11
 

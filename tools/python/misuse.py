@@ -124,6 +124,21 @@ def archives(want) -> None:
             want("an archive, closed by another thread", found, [forgesilver.WrongThread])
             want("it goes on", [it.place for it in archive], [0, 25, 50, 71])
 
+    up = Direction.UP
+    with forgesilver.Archive(packets, part_size=8) as archive:
+        calls = [
+            lambda: next(archive), archive.missing, lambda: archive.messages(up, apid=100),
+            lambda: archive.image(1, apid=100), lambda: archive.outcomes(b""),
+        ]
+        found = []
+        other = threading.Thread(target=lambda: found.extend(raised(call) for call in calls))
+        other.start()
+        other.join()
+        want("an archive, read by another thread", found, [forgesilver.WrongThread] * len(calls))
+        want("an APID out of range", raised(archive.messages, up, apid=2047), faults.Range)
+        got = [it.id for it in archive.messages(up, apid=100, any=True)]
+        want("its own thread reads it", got, [NAME[1]])
+
     class Nested(io.BytesIO):
         """A file whose reads call the archive."""
 
