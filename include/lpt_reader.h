@@ -2,7 +2,8 @@
  * A reader of archives of packets. It takes the octets in whatever pieces they come, and returns
  * packet after packet, each with its place, the fields of its headers, and its part. Packets have
  * this project's own headers (the profile), or those that the text of a layout file describes
- * (docs/FILES.md). Octets that are no packet are skipped, as `lpt list` does.
+ * (docs/FILES.md). If packets have checksums, octets that are no packet are skipped, as `lpt list`
+ * does.
  *
  * A program holds a reader by its address, an LptReader *. lpt_reader_new returns one, and
  * lpt_reader_free frees it. In between the program passes octets to lpt_reader_feed, and then calls
@@ -42,7 +43,8 @@ typedef struct LptReader LptReader;
  * the profile's headers, with parts of `part_size` octets, 4 to 1024. Otherwise packets are as this
  * text of a layout file says, and `part_size` is ignored, because the text has its own. A text of
  * white space alone means the profile's headers, with parts of any size. The reader finds packets
- * by their checksums if both tables of the layout have one, otherwise by their lengths alone.
+ * by their checksums if both tables of the layout have one. Otherwise it goes by their lengths
+ * alone, and everything from the first octets on with which no packet begins counts as no packet.
  * LPT_DONE, and *reader is its address; without a text LPT_E_RANGE for another part size; with a
  * text LPT_E_LAYOUT if it isn't UTF-8 or means no layout (`lpt list --layout` says why);
  * LPT_E_ALLOCATION.
