@@ -34,10 +34,9 @@ Examples:
 
 Statuses:
   0  everything was done
-  1  something was refused, failed, differs, is open or isn't whole, nothing was found
-     (except in list, which then ends with 0), or octets are no packet (except in chart,
-     pass, ground --resync, list without --strict, and join of packets with a checksum,
-     which skip them)
+  1  something was refused, failed, differs, is open or isn't whole, nothing was found,
+     or octets are no packet (in some of these cases a command that only shows, joins or
+     carries packets ends with 0: its section of docs/FILES.md says when)
   2  the command line, a line of the script (lint and shell: 1), HEX, the configuration,
      a layout or a list of patches can't be read
   3  a file can't be read or written, or is in use or of another job, memory ran out,
