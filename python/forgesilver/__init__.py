@@ -31,8 +31,8 @@ copies (`read_image` always copies). Numbers out of their range raise `faults.Ra
 another type TypeError.
 
 The package looks for the libraries in the folder that FORGESILVER_LIB names. If that isn't set, it
-looks beside its own files, where ./install puts them, and in `build` of the checkout. `liblpt` must
-have the package's version; `version` says whether the libraries are proved.
+looks beside its own files, then in the folder into which ./install puts them, then in `build` of the
+checkout. `liblpt` must have the package's version; `version` says whether the libraries are proved.
 """
 
 from __future__ import annotations

@@ -165,7 +165,7 @@ class End(Handle):
         state: Optional[Octets] = None,
     ) -> None:
         """Makes an end. `memories` are those of the spacecraft, 1 to 16: for each identifier the octets
-        with which the memory begins, 1 to 1,048,576. Ground has none.
+        with which the memory begins, 1 to 1,048,576. Ground has none, and ignores them.
 
         A new end is no restart of an old one: it doesn't know which names were used. So make the
         other end anew too, and let no older packet come.

@@ -127,7 +127,8 @@ class LongLoad(Fault, ValueError):
 
 
 class BadArea(Fault, ValueError):
-    """The areas are none, more than 255, empty, past the last address, or overlap in a job of loads."""
+    """A request's areas are none, more than 255, or one is empty; or a job's areas are none, one is
+    empty or ends past the last address, or two of a load overlap."""
 
     number = 28
 
@@ -345,7 +346,8 @@ class StateOrder(Fault, ValueError):
 
 
 class Elsewhere(Fault, ValueError):
-    """The memories are with the program and not in the end, as this call needs, or the other way."""
+    """This call needs the memories in the end, but the program has them; or the other way round. Only
+    C has ends whose program has the memories."""
 
     number = 119
 

@@ -114,7 +114,7 @@ class Job(Handle):
 
     def first(self) -> Optional[bytes]:
         """A copy of the packet that is to be sent next; None if none is. It stays the next one until
-        `sent`, or until a packet settles its request."""
+        `sent`, `quiet` or `cut_off`, or until a packet settles its request."""
         return self._copied(_ground.lpt_ground_outgoing, Room(self._most))
 
     def sent(self) -> None:
@@ -140,8 +140,10 @@ class Job(Handle):
         self._done(_ground.lpt_ground_packet, given.at, given.len)
 
     def quiet(self) -> None:
-        """Notes that no packet came for as long as the program waits. Then a new round begins; but if
-        this was the last of `tries` waits in a row that settled nothing, the job is given up."""
+        """Notes that no packet came for as long as the program waits. Then a new round begins,
+        which sends the open requests, again and again up to at least 8 packets; but if this was the
+        last of `tries` waits in a row that settled nothing, the job is given up. A late report may
+        still settle a request of a job that was given up: then `quiet` begins a new round."""
         self._done(_ground.lpt_ground_quiet)
 
     def cut_off(self) -> None:

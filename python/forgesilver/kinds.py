@@ -222,7 +222,8 @@ class JobKind(IntEnum):
 
 
 class Step(IntEnum):
-    """What a job does next. With COMPLETED and those after it the job is at its end.
+    """What a job does next. With COMPLETED and those after it the job is at its end; `is_end` says
+    so.
 
     - SEND: a packet is to be sent
     - LISTEN: a packet is to be awaited

@@ -116,7 +116,8 @@ class _OfAreas(_Request):
 
 @dataclass(frozen=True)
 class Dump(_OfAreas):
-    """A dump: asks for octets of a memory, at most 65,513 if it has one area."""
+    """A dump: asks for octets of a memory. The spacecraft refuses one whose report would be too long: one
+    area has at most 65,513 octets. A `Job` cuts longer ones."""
 
     subtype: ClassVar[int] = 5
     _write: ClassVar[Any] = staticmethod(_codecs.lpt_write_dump)
