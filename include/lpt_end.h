@@ -421,7 +421,9 @@ typedef struct LptAccess {
 /*
  * Returns one access that the oldest request, which must have been read, makes to a memory, by the
  * access's number from 0. A load writes its areas, and a dump or a check reads its areas, in the
- * order of the request. Each access lies within its memory. A request with a fault makes none.
+ * order of the request. Each access lies within its memory. A request that is refused with a
+ * code from 1 to 6 makes none; one with 7 or 8 still makes its reads, since only the execution finds
+ * that out.
  * LPT_DONE, and *access is written; LPT_E_NO_JOB, as always on ground; LPT_E_NOT_READ;
  * LPT_E_NOTHING if it has no access of this number.
  */
