@@ -104,7 +104,7 @@ pub record IsGiven (p : Program) (octets : List ℕ) (owed : List ToldWrite) : T
 -- that is owed makes the same of them.
 --
 -- Assumed: A C program that has the memories itself keeps each load's writes, or the octets that
--- they replace, before it writes (redo or undo), and so each octet that a torn write may change;
+-- they replace, before it writes (redo or undo), and each other octet that a torn write may change;
 -- nothing else writes there.
 abbrev pub CanAct : Config → Program → Act → Type 0
 CanAct c p (Calls t) = CanTurnBy c p.ends t.side t.call t.new × MayCall p t.side t.call
