@@ -129,8 +129,7 @@ static MEMORIES: [Case; 9] = [
         trouble: Trouble::Room(2),
         status: 3,
         made: &[("flash.lock", b"1\n")],
-        errors: "Write\nlpt: flash: no storage space\n\
-                 Write\nlpt: flash: no storage space\n",
+        errors: "Write\nlpt: flash: no storage space\n",
         ..NOTHING
     },
     Case {
