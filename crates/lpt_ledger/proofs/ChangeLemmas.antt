@@ -52,7 +52,7 @@ module _ (es fs : List (Name × Page)) (name : Name) where
       ∙ sym (get-marks es q))
 
   -- nor what always holds
-  pub IsKept-same : (ws : List (ℕ × List ℕ))
+  pub IsKept-same : (ws : List (Name × ℕ))
       → ((q : Name) → page_in fs q ≡ page_in es q)
       → IsKept es ws
       → IsKept fs ws
@@ -76,7 +76,7 @@ module _ (es fs : List (Name × Page)) (name : Name) where
           on_either false o b = refl
 
     -- a page whose bit is set has no free name
-    was_full : (ws : List (ℕ × List ℕ)) (q : Name)
+    was_full : (ws : List (Name × ℕ)) (q : Name)
         → IsKept es ws
         → page_first name ≡ page_first q
         → full_bit ws q ≡ 1
@@ -92,7 +92,7 @@ module _ (es fs : List (Name × Page)) (name : Name) where
         ∙ kept.tells r (page_bit ws r q page ∙ one)
 
     -- what always holds still does
-    pub IsKept-changed : (ws : List (ℕ × List ℕ)) → IsKept es ws → IsKept fs ws
+    pub IsKept-changed : (ws : List (Name × ℕ)) → IsKept es ws → IsKept fs ws
     IsKept-changed ws kept = record {
       tells = λ q one.
           ap (λ (o : Option Page). is_some (mark_on o (q.id % 64))) (h.stands (page_first q))

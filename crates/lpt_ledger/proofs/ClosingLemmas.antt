@@ -90,7 +90,7 @@ marks-closed es =
     ∙ sym (get-all_closed (marks es) q))
 
 -- and frees none, and moves no page
-pub IsKept-closed : (es : List (Name × Page)) (ws : List (ℕ × List ℕ)) → IsKept es ws
+pub IsKept-closed : (es : List (Name × Page)) (ws : List (Name × ℕ)) → IsKept es ws
     → IsKept (all_pages es) ws
 IsKept-closed es ws kept = record {
   tells = λ q one. ap is_some (mark_at-closed es q) ∙ go (mark_at es q) ∙ kept.tells q one;

@@ -1,5 +1,5 @@
 -- Runs that ascend are few: each has a name of its own, of 65,536 for each of 65,536 sources.
-use Rattle.std.proofs.Common.{◌≡◌, inl, inr, ℕ, suc, ◌+◌, ◌*◌, ◌≤◌, ◌^◌, true, ◌&&◌, List, [], ◌∷◌, ◌++◌, length, Option, Some, None, arith}
+use Rattle.std.proofs.Common.{◌≡◌, refl, inl, inr, ℕ, suc, ◌+◌, ◌*◌, ◌<◌, ◌≤◌, ◌^◌, true, ◌&&◌, List, [], ◌∷◌, ◌++◌, length, Option, Some, None, arith}
 use Rattle.std.specs.List.{All}
 use Rattle.lpt_packet.proofs.BoolLemmas.{and_left, and_right, true_le}
 use Rattle.lpt_ledger.specs.declared.run.NameRun.{NameRun}

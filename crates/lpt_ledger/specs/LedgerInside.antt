@@ -1,10 +1,9 @@
 -- How a ledger keeps the marks: in pages of 64 names, of which each has a bit in two words.
-use Rattle.std.specs.Prelude.{◌≡◌, ◌≢◌, ℕ, zero, suc, ◌+◌, ◌*◌, ◌/◌, ◌%◌, ◌<◌, ◌==◌, Bool, true, false, cond, List, [], ◌∷◌, Option, Some, None, is_some, slice_index, unwrap_or}
+use Rattle.std.specs.Prelude.{◌≡◌, ◌≢◌, ℕ, zero, suc, ◌+◌, ◌*◌, ◌/◌, ◌%◌, ◌<◌, ◌==◌, Bool, true, false, cond, List, [], ◌∷◌, Option, Some, None, is_some, unwrap_or}
 use Rattle.std.specs.BTreeMap.{is_at}
 use Rattle.std.specs.FinMap as map
 use Rattle.std.specs.Int.{bit_at}
 use Rattle.std.specs.Map.{lookup}
-use Rattle.std.specs.Ordering.{nat_cmp}
 use Rattle.lpt_packet.specs.Names.{Name, name_cmp, named_by}
 use Rattle.lpt_ledger.specs.declared.page.Page.{Page}
 use Rattle.lpt_ledger.specs.declared.state.State.{State}
@@ -97,27 +96,27 @@ marks es = map.from_entries (marks_over (names_on es) (mark_at es))
 
 -- ---- which pages are full
 
--- the words of a source; if there are none, no bit is set
-abbrev pub words_in : List (ℕ × List ℕ) → (source : ℕ) → List ℕ
-words_in ws source = unwrap_or (lookup (is_at (nat_cmp source)) ws) []
+-- the word of the 64 pages that begin with a name; if there is none, no bit is set
+abbrev pub word_in : List (Name × ℕ) → Name → ℕ
+word_in ws first = unwrap_or (lookup (is_at (name_cmp first)) ws) 0
 
--- the word of this number among them, of 64 pages
-abbrev pub word_in : List (ℕ × List ℕ) → (source number : ℕ) → ℕ
-word_in ws source number = slice_index (words_in ws source) number
+-- the first name of the 64 pages of a name
+abbrev pub word_first : Name → Name
+word_first name = named_by name.source (name.id / 4096 * 4096)
 
 -- the bit of a name's page
-abbrev pub full_bit : List (ℕ × List ℕ) → Name → ℕ
-full_bit ws name = bit_at (word_in ws name.source (name.id / 4096)) (name.id / 64 % 64)
+abbrev pub full_bit : List (Name × ℕ) → Name → ℕ
+full_bit ws name = bit_at (word_in ws (word_first name)) (name.id / 64 % 64)
 
 -- each page stands under its first name
 abbrev pub ArePaged : List (Name × Page) → Type 0
 ArePaged es = (q : Name) → is_some (page_in es q) ≡ true → page_first q ≡ q
 
 -- a page has its bit set only if none of its names is free
-abbrev pub Tells : List (Name × Page) → List (ℕ × List ℕ) → Type 0
+abbrev pub Tells : List (Name × Page) → List (Name × ℕ) → Type 0
 Tells es ws = (q : Name) → full_bit ws q ≡ 1 → is_some (mark_at es q) ≡ true
 
 -- what always holds of a ledger's pages and bits
-pub record IsKept (es : List (Name × Page)) (ws : List (ℕ × List ℕ)) : Type 0 where
+pub record IsKept (es : List (Name × Page)) (ws : List (Name × ℕ)) : Type 0 where
   pub tells : Tells es ws
   pub paged : ArePaged es

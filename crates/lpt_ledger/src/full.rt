@@ -1,20 +1,17 @@
 //! Which pages are full: a bit for each in words of 64, so that the least free name is found without
 //! a look at each page.
 
-ghost use Rattle.std.specs.Prelude.{◌≡◌, ◌≢◌, ℕ, ◌<◌, true, None, cond, is_some, slice_index, OnOk, OnErr};
+ghost use Rattle.std.specs.Prelude.{◌≡◌, ◌≢◌, ℕ, ◌<◌, true, None, cond, is_some, OnOk, OnErr};
 ghost use Rattle.std.specs.BTreeMap.{is_at};
 ghost use Rattle.std.specs.Map.{lookup};
-ghost use Rattle.std.specs.Ordering.{nat_cmp};
-ghost use Rattle.lpt_ledger.specs.LedgerInside.{full_bit, page_first, page_mark, word_in};
+ghost use Rattle.lpt_packet.specs.Names.{name_cmp};
+ghost use Rattle.lpt_ledger.specs.LedgerInside.{full_bit, page_first, page_mark, word_first, word_in};
 
 use crate::bits::{has_bit, with_bit};
-use crate::page::{PAGE, Page};
+use crate::page::{PAGE, Page, first_among};
 use lpt_packet::Name;
 use std::alloc::AllocError;
 use std::collections::BTreeMap;
-
-/// How many words have a bit for each page of a source.
-pub(crate) const WORDS: usize = 16;
 
 /// How many pages have a bit in one word.
 pub(crate) const WORD: u16 = 64;
@@ -22,16 +19,17 @@ pub(crate) const WORD: u16 = 64;
 /// How many names these pages have.
 pub(crate) const WORD_NAMES: u16 = 4_096;
 
-/// The words of each source. Those of a source have a place in memory if one of their bits is set.
-pub(crate) type Words = BTreeMap<u16, [u64; WORDS]>;
+/// The words, by the first names of their pages. A word has a place in memory if one of its bits
+/// is set.
+pub(crate) type Words = BTreeMap<Name, u64>;
 
-/// The words of a source.
-pub(crate) fn words_of(words: &Words, source: u16) -> [u64; WORDS]
-    ensures { (n : ℕ) → slice_index result n ≡ word_in words.now.entries source n }
+/// The word of the 64 pages that begin with a name.
+pub(crate) fn word_of(words: &Words, first: Name) -> u64
+    ensures { result ≡ word_in words.now.entries first }
 {
-    match words.get(&source) {
-        None => [0; WORDS],
-        Some(own) => *own,
+    match words.get(&first) {
+        None => 0,
+        Some(word) => *word,
     }
 }
 
@@ -43,17 +41,18 @@ pub(crate) fn keep_place(
     before: Page,
     page: Page,
 ) -> Result<(), AllocError>
-    ensures words { (s n : ℕ) → word_in words.new.entries s n ≡ word_in words.old.entries s n }
+    ensures words { (q : Name) → word_in words.new.entries q ≡ word_in words.old.entries q }
     ensures before { OnErr result ((b : ℕ) × (b < 64) × (page_mark before b ≡ None)) }
     ensures full { OnErr result ((b : ℕ) → b < 64 → is_some (page_mark page b) ≡ true) }
 {
     if !page.is_full() || before.is_full() {
         return Ok(());
     }
-    if words.contains_key(&name.source) {
+    let first = first_among(name, WORD_NAMES);
+    if words.contains_key(&first) {
         return Ok(());
     }
-    match words.insert(name.source, [0; WORDS]) {
+    match words.insert(first, 0) {
         Ok(_) => Ok(()),
         Err(_) => Err(AllocError),
     }
@@ -67,35 +66,33 @@ pub(crate) fn put_bit(words: &mut Words, name: Name, is_full: bool)
     ensures others { (q : Name) → page_first q ≢ page_first name
         → full_bit words.new.entries q ≡ full_bit words.old.entries q }
 {
-    let mut own = words_of(words, name.source);
-    let number = usize::from(name.id / WORD_NAMES);
+    let first = first_among(name, WORD_NAMES);
+    let word = word_of(words, first);
     let bit = u32::from(name.id / PAGE % WORD);
-    let word = own[number];
     if has_bit(word, bit) == is_full {
         return;
     }
-    if !words.contains_key(&name.source) {
+    if !words.contains_key(&first) {
         return;
     }
-    own[number] = with_bit(word, bit, is_full);
-    match put_words(words, name.source, own) {
+    match put_word(words, first, with_bit(word, bit, is_full)) {
         Ok(()) => {}
         Err(AllocError) => unreachable!(),
     }
 }
 
-// Puts the words of a source in their place, or takes their place out if no bit is set. The only
-// error is out of memory, which comes only if there was no place.
-fn put_words(words: &mut Words, source: u16, own: [u64; WORDS]) -> Result<(), AllocError>
-    ensures ok { OnOk result ((s n : ℕ) → word_in words.new.entries s n
-        ≡ cond (is_at (nat_cmp source) s) (slice_index own n) (word_in words.old.entries s n)) }
-    ensures none { OnErr result (lookup (is_at (nat_cmp source)) words.old.entries ≡ None) }
+// Puts a word in its place, or takes its place out if no bit is set. The only error is out of
+// memory, which comes only if there was no place.
+fn put_word(words: &mut Words, first: Name, word: u64) -> Result<(), AllocError>
+    ensures ok { OnOk result ((q : Name) → word_in words.new.entries q
+        ≡ cond (is_at (name_cmp first) q) word (word_in words.old.entries q)) }
+    ensures none { OnErr result (lookup (is_at (name_cmp first)) words.old.entries ≡ None) }
 {
-    if own == [0; WORDS] {
-        let _ = words.remove(&source);
+    if word == 0 {
+        let _ = words.remove(&first);
         return Ok(());
     }
-    match words.insert(source, own) {
+    match words.insert(first, word) {
         Ok(_) => Ok(()),
         Err(_) => Err(AllocError),
     }

@@ -1,48 +1,29 @@
--- A bit that needn't change, and none without words.
-use Rattle.std.proofs.Common.{◌≡◌, ◌∙◌, ap, sym, rules, ℕ, false, is_some, List, cond, get_or, length, ◌<◌, ◌/◌, ◌%◌, ◌≢◌, arith}
-use Rattle.std.proofs.Math.ListN.{set}
+-- A bit that needn't change, and none without a word.
+use Rattle.std.proofs.Common.{◌≡◌, ◌∙◌, ap, sym, rules, ℕ, ◌==◌, true, false, is_some, arith}
 use Rattle.std.specs.BTreeMap.{is_at}
 use Rattle.std.specs.Int.{bit_at}
 use Rattle.std.specs.Map.{lookup}
-use Rattle.std.specs.Ordering.{nat_cmp}
-use Rattle.lpt_ledger.specs.Bits.{bit_for}
-use Rattle.lpt_ledger.specs.LedgerInside.{word_in}
-use Rattle.lpt_ledger.proofs.FullLemmas.{bit-others, none_set, one_source}
+use Rattle.lpt_packet.specs.Names.{Name, name_cmp}
+use Rattle.lpt_ledger.specs.LedgerInside.{word_first, word_in}
+use Rattle.lpt_ledger.proofs.FullLemmas.{none_set, one_word, page_bit}
 use Rattle.lpt_ledger.proofs.full.put_bit.Goals as goal
 
 pub returns-then-not-contains_key-clause-this : goal.returns-then-not-contains_key-clause-this
 returns-then-not-contains_key-clause-this c = λ q same one.
     let ws = c.args.words.now.entries in
-    let without : is_some (lookup (is_at (nat_cmp c.args.name.source)) ws) ≡ false = search rules in
-    let none : is_some (lookup (is_at (nat_cmp q.source)) ws) ≡ false =
-    ap (λ (n : ℕ). is_some (lookup (is_at (nat_cmp n)) ws)) (one_source q c.args.name same)
-    ∙ without in
+    let without : is_some (lookup (is_at (name_cmp c.first_among-first.result)) ws) ≡ false = search rules in
+    let none : is_some (lookup (is_at (name_cmp (word_first q))) ws) ≡ false =
+    ap (λ (n : Name). is_some (lookup (is_at (name_cmp n)) ws))
+    (sym (one_word q c.args.name same) ∙ sym c.first_among-first.ensures) ∙ without in
     absurd (omega (arith, none_set ws q none, one))
 
--- one bit of one word is put
-pub returns-clause-others : goal.returns-clause-others
-returns-clause-others c =
+-- the bit is as it has to be
+pub returns-then-has_bit-is_full-clause-this : goal.returns-then-has_bit-is_full-clause-this
+returns-then-has_bit-is_full-clause-this c = λ q same one.
     let ws = c.args.words.now.entries in
-    let vs = c.put_words.new.words.entries in
-    let name = c.args.name in
-    let own : List ℕ = c.words_of-own.result in
-    let word : ℕ = c.with_bit.result in
-    let within : name.id / 4096 < length own = omega arith in
-    let bit : bit_at word (name.id / 64 % 64) ≡ bit_for c.args.is_full =
-    ap (bit_at word) (sym c.from-bit.ensures) ∙ c.with_bit.ensures.bit in
-    let was : get_or own c.from-number.result 0 ≡ word_in ws name.source (name.id / 4096) =
-    ap (λ (k : ℕ). get_or own k 0) c.from-number.ensures ∙ c.words_of-own.ensures (name.id / 4096)
-    in
-    let rest : (i : ℕ) → i < 64 → i ≢ name.id / 64 % 64 → bit_at word i
-    ≡ bit_at (word_in ws name.source (name.id / 4096)) i =
-    λ i below other.
-    c.with_bit.ensures.others i below (λ same. other (same ∙ c.from-bit.ensures))
-    ∙ ap (λ (w : ℕ). bit_at w i) was in
-    let put : (s n : ℕ) → word_in vs s n
-    ≡ cond (is_at (nat_cmp name.source) s) (get_or (set own (name.id / 4096) word) n 0)
-    (word_in ws s n) =
-    λ s n.
-    c.in-Ok.ensures.ok s n
-    ∙ ap (λ (k : ℕ). cond (is_at (nat_cmp name.source) s) (get_or (set own k word) n 0)
-    (word_in ws s n)) c.from-number.ensures in
-    bit-others ws vs name own word c.args.is_full within c.words_of-own.ensures bit rest put
+    let word : c.word_of-word.result ≡ word_in ws (word_first c.args.name) =
+    c.word_of-word.ensures ∙ ap (λ (n : Name). word_in ws n) c.first_among-first.ensures in
+    let bit : bit_at c.word_of-word.result c.from-bit.result ≡ 1 =
+    (λ i. bit_at (word i) (c.from-bit.ensures i)) ∙ sym (page_bit ws q c.args.name same) ∙ one in
+    let set : c.has_bit.result ≡ true = c.has_bit.ensures ∙ ap (λ (n : ℕ). n == 1) bit in
+    search (rules, set, c.if-has_bit-is_full.true)

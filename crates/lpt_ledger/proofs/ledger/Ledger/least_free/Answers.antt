@@ -1,5 +1,5 @@
 -- The first free one of the first page that has one is the least free name.
-use Rattle.std.proofs.Common.{◌≡◌, ◌∙◌, sym, ap, subst, ℕ, ◌+◌, ◌*◌, ◌%◌, ◌^◌, ◌<◌, ◌≤◌, true, bit_or, get_or, is_some, Option, Some, None, arith, w64}
+use Rattle.std.proofs.Common.{◌≡◌, ◌∙◌, sym, ap, subst, ℕ, ◌+◌, ◌*◌, ◌%◌, ◌^◌, ◌<◌, ◌≤◌, true, bit_or, is_some, Option, Some, None, arith, w64}
 use Rattle.std.proofs.lemmas.Nat.{le_or_l}
 use Rattle.std.proofs.lemmas.Nat.Bits.{bit_at_set_other, bit_at_set_same}
 use Rattle.lpt_packet.specs.Names.{named_by}
@@ -22,8 +22,8 @@ begins number bit = omega arith
 pub loop-bit-init : goal.loop-bit-init
 loop-bit-init c =
     told_first c.self.inside.pages.entries c.args.source c.loop-number.number
-    c.self.inside.full.entries (get_or c.words_of-words.result c.loop-number.number 0)
-    c.self.invariant.tells (c.words_of-words.ensures c.loop-number.number)
+    c.self.inside.full.entries c.word_of-word.result c.self.invariant.tells
+    c.word_of-word.ensures
 
 pub loop-bit-preserved : goal.loop-bit-preserved
 loop-bit-preserved c =
