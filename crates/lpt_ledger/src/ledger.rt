@@ -8,7 +8,7 @@ ghost use Rattle.lpt_ledger.specs.Marks.{Opened, Shut, all_closed};
 ghost use Rattle.lpt_ledger.specs.States.{state_at};
 ghost use Rattle.lpt_ledger.specs.Refusals.{refusal_open, refusal_close, refusal_shut, refusal_retire, RefusedBy};
 ghost use Rattle.lpt_ledger.specs.LeastFree.{least_free_in, IsLeastFree};
-ghost use Rattle.lpt_ledger.specs.LedgerInside.{mark_on, page_first, page_in, page_mark, with_state, IsChanged};
+ghost use Rattle.lpt_ledger.specs.LedgerInside.{mark_of, mark_on, page_first, page_in, page_mark, with_state, IsChanged};
 
 use crate::bits::lowest_clear;
 use crate::full::{WORD_NAMES, Words, keep_place, put_bit, word_of};
@@ -109,6 +109,9 @@ impl Ledger {
         ensures refused { IfErr result (λ e. refusal_close (state_at self.old name) ≡ Some e) }
         ensures err { OnErr result (self.new ≡ self.old) }
     {
+        if self.change(name, Some(State::Open), State::Closed) {
+            return Ok(());
+        }
         if self.state(name) != State::Open {
             return Err(LedgerFault::NotOpen);
         }
@@ -169,10 +172,13 @@ impl Ledger {
         ensures refused { IfErr result (RefusedBy (refusal_open (state_at self.old name))) }
         ensures err { OnErr result (self.new ≡ self.old) }
     {
+        if self.change(name, Some(State::Free), state) {
+            return Ok(());
+        }
         if self.state(name) != State::Free {
             return Err(LedgerFault::InUse);
         }
-        match self.set(name, state) {
+        match self.put(name, state) {
             Ok(()) => Ok(()),
             Err(AllocError) => Err(LedgerFault::Memory),
         }
@@ -196,20 +202,27 @@ impl Ledger {
         ensures free { OnErr result (state_at self.old name ≡ State.Free) }
         ensures err { OnErr result (self.new ≡ self.old) }
     {
-        if self.change(name, state) {
+        if self.change(name, None, state) {
             return Ok(());
         }
         self.put(name, state)
     }
 
-    // Sets the state of a name if its page can be changed where it stands. Says whether it did; if
-    // not, nothing has changed.
-    fn change(&mut self, name: Name, state: State) -> bool
+    // Sets the state of a name if it has this one, or whatever it has, and if its page can be
+    // changed where it stands. Says whether it did; if not, nothing has changed.
+    fn change(&mut self, name: Name, from: Option<State>, state: State) -> bool
+        ensures had { IsTrue result → IfSome from (λ s. state_at self.old name ≡ s) }
         ensures done { IsTrue result → self.new ≡ with_state self.old name state }
         ensures not_done { result ≡ false → self.new ≡ self.old }
     {
         let first = first_among(name, PAGE);
-        change_page(&mut self.pages, first, u32::from(name.id % PAGE), state)
+        change_page(
+            &mut self.pages,
+            first,
+            u32::from(name.id % PAGE),
+            from,
+            state,
+        )
     }
 
     // Sets the state of a name, with the bit of its page. The only error is out of memory, which
@@ -239,11 +252,29 @@ fn page_of(pages: &BTreeMap<Name, Page>, first: Name) -> Page
     }
 }
 
+// Whether a name may be changed that has this state.
+fn may_change(from: Option<State>, has: State) -> bool
+    ensures { IsTrue result → IfSome from (λ s. has ≡ s) }
+{
+    match from {
+        None => true,
+        Some(from) => has == from,
+    }
+}
+
 // Gives the name at a place of a page this state where the page stands, with one look at the pages;
-// not if the page has no place or would lose it, nor if it gets full or is full no more. Says
-// whether it did.
-fn change_page(pages: &mut BTreeMap<Name, Page>, first: Name, place: u32, state: State) -> bool
+// not if it has another state than it may have, nor if the page has no place or would lose it, nor
+// if it gets full or is full no more. Says whether it did.
+fn change_page(
+    pages: &mut BTreeMap<Name, Page>,
+    first: Name,
+    place: u32,
+    from: Option<State>,
+    state: State,
+) -> bool
     requires { place < 64 }
+    ensures had { IsTrue result
+        → IfSome from (λ s. mark_on (page_in pages.old.entries first) place ≡ mark_of s) }
     ensures done { IsTrue result
         → IsChanged pages.old.entries pages.new.entries first place state }
     ensures not_done { result ≡ false
@@ -252,6 +283,9 @@ fn change_page(pages: &mut BTreeMap<Name, Page>, first: Name, place: u32, state:
     match pages.get_mut(&first) {
         None => false,
         Some(kept) => {
+            if !may_change(from, kept.state(place)) {
+                return false;
+            }
             let page = kept.with(place, state);
             if page.is_empty() || page.is_full() != kept.is_full() {
                 return false;

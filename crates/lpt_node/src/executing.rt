@@ -1,13 +1,14 @@
 //! What is made for an execution before anything is changed.
 
-ghost use Rattle.std.specs.Prelude.{◌≡◌, ◌≢◌, [], ◌∷◌, ◌++◌, nat_lt, length, is_some, IfOk, OnOk, OnErr, All, None};
+ghost use Rattle.std.specs.Prelude.{◌≡◌, ◌≢◌, [], ◌∷◌, ◌++◌, nat_lt, length, IfOk, IfSome, OnOk, OnErr, All, None};
 ghost use Rattle.std.specs.FinMap as map;
 ghost use Rattle.lpt_ledger.specs.LeastFree.{least_free_in};
+ghost use Rattle.lpt_ledger.specs.States.{state_at};
 ghost use Rattle.lpt_memory.specs.Given.{read_length};
 ghost use Rattle.lpt_memory.specs.Memories.{sizes_of};
 ghost use Rattle.lpt_memory.specs.Readings.{source_meaning};
 ghost use Rattle.lpt_execution.specs.Ranges.{EndingFits, ReportFits};
-ghost use Rattle.lpt_execution.specs.Reporting.{applied_of, large_packets, link_packets, opened_of};
+ghost use Rattle.lpt_execution.specs.Reporting.{applied_of, large_packets, link_packets, opened_of, request_source};
 ghost use Rattle.lpt_node.specs.Executions.{made_of, reports_of, with_counts};
 ghost use Rattle.lpt_node.specs.Jobs.{ending_at, ending_given, report_packets, reports_made, with_opened};
 ghost use Rattle.lpt_node.specs.Nodes.{MessageFits};
@@ -18,6 +19,7 @@ use crate::counts::Counts;
 use crate::sending::begin;
 use lpt_events::Applied;
 use lpt_execution::{Ending, Report, ending_given, ending_of, is_small, reports, request_source};
+use lpt_ledger::State;
 use lpt_memory::{Memories, Reading};
 use lpt_packet::{Name, Octets};
 use std::alloc::AllocError;
@@ -33,24 +35,33 @@ pub(crate) struct Made {
 }
 
 impl Node {
-    // Whether a reply could be opened under a name of this source: one is free, and there is room.
-    fn may_open(&self, source: u16) -> (bool, bool)
-        ensures free { result.0 ≡ is_some (least_free_in self.now.at.sending.ledger source) }
-        ensures room { result.1
-            ≡ nat_lt (map.len self.now.at.sending.messages) self.now.at.outgoing }
+    // The least free name of the source of a reading's request, under which a reply would be opened.
+    pub(crate) fn reply_name(&self, reading: &Reading) -> Option<Name>
+        ensures value { result ≡ least_free_in self.now.at.sending.ledger
+            (request_source reading.now.apid reading.now.message) }
+        ensures free { IfSome result (λ n. state_at self.now.at.sending.ledger n ≡ State.Free) }
     {
-        let free = self.senders.least_free(source).is_some();
-        let room = self.outgoing.len() < self.config.outgoing as usize;
-        (free, room)
+        self.senders.least_free(request_source(reading))
     }
 
-    // How the execution of a reading ends, over these memories. A load isn't done yet.
+    // Whether there is room for one open message more.
+    fn has_room(&self) -> bool
+        ensures { result ≡ nat_lt (map.len self.now.at.sending.messages) self.now.at.outgoing }
+    {
+        self.outgoing.len() < self.config.outgoing as usize
+    }
+
+    // How the execution of a reading ends, over these memories, if a reply has this name. A load
+    // isn't done yet.
     pub(crate) fn ending(
         &self,
+        name: Option<Name>,
         memories: &Memories,
         reading: &Reading,
     ) -> Result<Ending, AllocError>
-        requires { reading.now.sizes ≡ sizes_of memories.now }
+        requires sizes { reading.now.sizes ≡ sizes_of memories.now }
+        requires name { name ≡ least_free_in self.now.at.sending.ledger
+            (request_source reading.now.apid reading.now.message) }
         ensures ending { IfOk result (λ e.
             e ≡ ending_at self.now.config self.now.at memories.now reading.now) }
         ensures fits { IfOk result EndingFits }
@@ -59,27 +70,29 @@ impl Node {
         ensures memory { OnErr result (reports_of reading.now
             (ending_at self.now.config self.now.at memories.now reading.now) ≢ []) }
     {
-        let (free, room) = self.may_open(request_source(reading));
-        let ending = ending_of(self.config.part_size, free, room, memories, reading)?;
+        let (p, room) = (self.config.part_size, self.has_room());
+        let ending = ending_of(p, name.is_some(), room, memories, reading)?;
         Ok(ending)
     }
 
     // The same by the octets that it reads of memories.
     pub(crate) fn ending_given(
         &self,
+        name: Option<Name>,
         octets: &[u8],
         reading: &Reading,
     ) -> Result<Ending, AllocError>
-        requires { length octets.now ≡ read_length (source_meaning reading.now) }
+        requires reads { length octets.now ≡ read_length (source_meaning reading.now) }
+        requires name { name ≡ least_free_in self.now.at.sending.ledger
+            (request_source reading.now.apid reading.now.message) }
         ensures ending { IfOk result (λ e.
             e ≡ ending_given self.now.config self.now.at octets.now reading.now) }
         ensures fits { IfOk result EndingFits }
         ensures memory { OnErr result (reports_of reading.now
             (ending_given self.now.config self.now.at octets.now reading.now) ≢ []) }
     {
-        let (free, room) = self.may_open(request_source(reading));
-        let p = self.config.part_size;
-        let ending = ending_given(self.alloc, p, free, room, octets, reading)?;
+        let (p, room) = (self.config.part_size, self.has_room());
+        let ending = ending_given(self.alloc, p, name.is_some(), room, octets, reading)?;
         Ok(ending)
     }
 
@@ -166,17 +179,17 @@ impl Node {
         Ok(())
     }
 
-    // Opens the first of these messages under the least free name of this source, and answers what
-    // was opened.
+    // Opens the first of these messages under this free name, and answers what was opened.
     pub(crate) fn open_first(
         &mut self,
-        source: u16,
+        name: Option<Name>,
         messages: Vec<Octets>,
     ) -> Result<Option<(Name, Octets)>, AllocError>
-        requires { All (λ m. MessageFits self.old.config.part_size (length m)) messages.items }
+        requires fits { All (λ m. MessageFits self.old.config.part_size (length m)) messages.items }
+        requires free { IfSome name (λ n. state_at self.old.at.sending.ledger n ≡ State.Free) }
         ensures at { IfOk result (λ x. self.new.at ≡ with_opened self.old.at x) }
         ensures opened { IfOk result (λ x.
-            x ≡ opened_of (least_free_in self.old.at.sending.ledger source) messages.items) }
+            x ≡ opened_of name messages.items) }
 
         ensures side { self.new.side ≡ self.old.side }
         ensures config { self.new.config ≡ self.old.config }
@@ -188,7 +201,7 @@ impl Node {
         let Some(message) = messages.into_iter().next() else {
             return Ok(None);
         };
-        let Some(name) = self.senders.least_free(source) else {
+        let Some(name) = name else {
             return Ok(None);
         };
         let copy = message.copy()?;

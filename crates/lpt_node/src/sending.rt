@@ -1,6 +1,6 @@
 //! Sending messages in parts.
 
-ghost use Rattle.std.specs.Prelude.{◌≡◌, length, None, Some, IfOk, IfErr, OnOk, OnErr};
+ghost use Rattle.std.specs.Prelude.{◌≡◌, length, false, None, Some, IfOk, IfErr, IsTrue, OnOk, OnErr};
 ghost use Rattle.std.specs.FinMap as map;
 ghost use Rattle.lpt_ledger.specs.Marks.{Opened};
 ghost use Rattle.lpt_ledger.specs.States.{state_at};
@@ -83,22 +83,29 @@ impl Node {
         ensures refused { IfErr result (λ e. refusal_finish self.old.at name ≡ Some e) }
         ensures err { OnErr result (self.new.at ≡ self.old.at) }
     {
-        if let Some(fault) = self.refusal_finish(name) {
-            return Err(fault);
+        if self.close(name) {
+            Ok(())
+        } else {
+            Err(NodeFault::NotOpen)
         }
-        self.close(name);
-        Ok(())
     }
 
-    // Closes an outgoing transaction if it is open.
-    pub(crate) fn close(&mut self, name: Name)
+    // Closes an outgoing transaction if it is open, and says whether it was.
+    pub(crate) fn close(&mut self, name: Name) -> bool
         ensures at { self.new.at ≡ sender_closed self.old.at name }
+        ensures open { IsTrue result → refusal_finish self.old.at name ≡ None }
+        ensures not_open { result ≡ false
+            → refusal_finish self.old.at name ≡ Some NodeFault.NotOpen }
+        ensures unchanged { result ≡ false → self.new.at ≡ self.old.at }
         ensures side { self.new.side ≡ self.old.side }
         ensures config { self.new.config ≡ self.old.config }
     {
         match self.senders.close(name) {
-            Ok(()) => self.outgoing.remove(name),
-            Err(_) => {}
+            Ok(()) => {
+                self.outgoing.remove(name);
+                true
+            }
+            Err(_) => false,
         }
     }
 }

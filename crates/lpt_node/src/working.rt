@@ -1,21 +1,25 @@
 //! Jobs: the requests that were released, claimed by workers, and executed in order of release.
 
-ghost use Rattle.std.specs.Prelude.{◌≡◌, ◌≢◌, ◌-◌, [], length, IsTrue, None, Some, IfOk, IfErr, OnOk, OnErr};
+ghost use Rattle.std.specs.Prelude.{◌≡◌, ◌≢◌, ◌-◌, [], length, IsTrue, None, Some, IfOk, IfErr, IfSome, OnOk, OnErr};
 ghost use Rattle.std.specs.Option.{option_map};
 ghost use Rattle.lpt_jobs.specs.Jobs.{Ready, claimed_in, head_of, is_claimed, is_ready, jobs_numbered, oldest_unclaimed, without_front};
+ghost use Rattle.lpt_ledger.specs.LeastFree.{least_free_in};
+ghost use Rattle.lpt_ledger.specs.States.{state_at};
 ghost use Rattle.lpt_memory.specs.Memories.{Contents};
 ghost use Rattle.lpt_memory.specs.Readings.{Source};
 ghost use Rattle.lpt_execution.specs.Ranges.{EndingFits};
+ghost use Rattle.lpt_execution.specs.Reporting.{request_source};
 ghost use Rattle.lpt_node.specs.Executions.{front_reports, reports_given, reports_of, reports_refused};
 ghost use Rattle.lpt_node.specs.Jobs.{refusal_claim, job_claimed, job_committed, refusal_apply, job_executed, executed_given, executed_so, execution, front_reading, refused_front, FrontHolds, FrontReads, IsReadFor};
 ghost use Rattle.lpt_node.specs.Sending.{RefusedBy};
 
 use crate::executing::Made;
 use crate::{Executed, Node, NodeFault};
-use lpt_execution::{Ending, applied_with, request_source};
+use lpt_execution::{Ending, applied_with};
 use lpt_jobs::Front;
+use lpt_ledger::State;
 use lpt_memory::{Memories, Reading, Ticket};
-use lpt_packet::Octets;
+use lpt_packet::{Name, Octets};
 use lpt_pus::FailureCode;
 use std::alloc::AllocError;
 
@@ -137,10 +141,11 @@ impl Node {
         let Front::Ready(reading) = self.jobs.front() else {
             unreachable!()
         };
-        let Ok(ending) = self.ending(memories, reading) else {
+        let name = self.reply_name(reading);
+        let Ok(ending) = self.ending(name, memories, reading) else {
             return Err(NodeFault::Memory);
         };
-        let Ok((executed, reading)) = self.end_front(ending) else {
+        let Ok((executed, reading)) = self.end_front(name, ending) else {
             return Err(NodeFault::Memory);
         };
         memories.load(&reading);
@@ -181,10 +186,11 @@ impl Node {
         let Front::Ready(reading) = self.jobs.front() else {
             unreachable!()
         };
-        let Ok(ending) = self.ending_given(octets, reading) else {
+        let name = self.reply_name(reading);
+        let Ok(ending) = self.ending_given(name, octets, reading) else {
             return Err(NodeFault::Memory);
         };
-        let Ok((executed, _)) = self.end_front(ending) else {
+        let Ok((executed, _)) = self.end_front(name, ending) else {
             return Err(NodeFault::Memory);
         };
         Ok(executed)
@@ -236,20 +242,28 @@ impl Node {
         if let Some(fault) = self.refusal_apply() {
             return Err(fault);
         }
-        let Front::Ready(_) = self.jobs.front() else {
+        let Front::Ready(reading) = self.jobs.front() else {
             unreachable!()
         };
-        let Ok((executed, _)) = self.end_front(Ending::Refused(code)) else {
+        let name = self.reply_name(reading);
+        let Ok((executed, _)) = self.end_front(name, Ending::Refused(code)) else {
             return Err(NodeFault::Memory);
         };
         Ok(executed)
     }
 
     // Ends the execution of the oldest job, which is ready: makes its reports, opens the one that is
-    // too long, and lets the job go, with its reading. The only error is out of memory, with nothing
-    // changed.
-    fn end_front(&mut self, ending: Ending) -> Result<(Executed, Reading), AllocError>
+    // too long under the least free name of the request's source, and lets the job go, with its
+    // reading. The only error is out of memory, with nothing changed.
+    fn end_front(
+        &mut self,
+        name: Option<Name>,
+        ending: Ending,
+    ) -> Result<(Executed, Reading), AllocError>
         requires ready { IsTrue (is_ready (head_of self.old.at.jobs.jobs)) }
+        requires name { (r : Source) → head_of self.old.at.jobs.jobs ≡ Ready r
+            → name ≡ least_free_in self.old.at.sending.ledger (request_source r.apid r.message) }
+        requires free { IfSome name (λ n. state_at self.old.at.sending.ledger n ≡ State.Free) }
         requires fits { EndingFits ending }
         ensures ok { IfOk result (λ x. (self.new.at, execution x.0)
             ≡ executed_so self.old.config self.old.at (λ r. ending) (head_of self.old.at.jobs.jobs)) }
@@ -263,7 +277,6 @@ impl Node {
         let Front::Ready(reading) = self.jobs.front() else {
             unreachable!()
         };
-        let source = request_source(reading);
         // All that takes memory comes first, and the new message last of it.
         let (applied, made) = self.execution(reading, ending)?;
         let Made {
@@ -271,7 +284,7 @@ impl Node {
             packets,
             large,
         } = made;
-        let opened = self.open_first(source, large)?;
+        let opened = self.open_first(name, large)?;
         self.counts = counts;
         let reading = self.jobs.pop_front();
         let executed = Executed {

@@ -24,6 +24,17 @@ returns-then-is_empty-clause-not_done c = λ _.
           ap (λ m. page_in m.entries q) w.pages-is ∙ same q
     ]
 
+-- the same of one whose state isn't that
+pub returns-then-not-may_change-clause-not_done : goal.returns-then-not-may_change-clause-not_done
+returns-then-not-may_change-clause-not_done c = λ _.
+    let es = c.args.pages.now.entries in
+    let fs = (c.get_mut.follows.lender c.in-Some.kept.now).entries in
+    let there : page_in es c.args.first ≡ Some c.in-Some.kept.now = search rules in
+    let stands : (q : Name) → page_in fs q
+    ≡ cond (is_at (name_cmp c.args.first) q) (Some c.in-Some.kept.now) (page_in es q) =
+    ((c.get_mut.follows.holds c.in-Some.kept.now).3 (search rules)).0 in
+    same_page es fs c.args.first c.in-Some.kept.now there stands
+
 pub returns-else-is_full-clause-done : goal.returns-else-is_full-clause-done
 returns-else-is_full-clause-done c = λ _.
     let es = c.args.pages.now.entries in

@@ -1,5 +1,5 @@
 -- Places whose names are free are passed over.
-use Rattle.std.proofs.Common.{◌≡◌, ◌∙◌, ap, sym, ℕ, ◌<◌, ◌≤◌, Bool, true, false, is_some, rules, arith}
+use Rattle.std.proofs.Common.{◌≡◌, ◌∙◌, ap, sym, ℕ, ◌<◌, ◌≤◌, true, false, is_some, rules, arith}
 use Rattle.lpt_packet.specs.Names.{Name}
 use Rattle.lpt_ledger.specs.LedgerInside.{page_mark}
 use Rattle.lpt_ledger.proofs.PagedLemmas.{page_done, page_skipped, page_taken}

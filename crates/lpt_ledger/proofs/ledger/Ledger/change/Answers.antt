@@ -1,9 +1,13 @@
 -- The page of a name that is changed where it stands, or not at all.
-use Rattle.std.proofs.Common.{◌≡◌, ◌∙◌, ap, subst, refl, ℕ, ◌%◌, true, false}
+use Rattle.std.proofs.Common.{◌≡◌, ◌∙◌, ap, sym, subst, refl, ℕ, ◌%◌, true, false, List, Option, None, Some, IfSome}
 use Rattle.lpt_packet.specs.Names.{Name}
-use Rattle.lpt_ledger.specs.LedgerInside.{page_first, with_state, IsChanged, IsKept}
-use Rattle.lpt_ledger.specs.Marks.{Marks}
+use Rattle.lpt_ledger.specs.LedgerInside.{mark_of, mark_on, marks, page_first, page_in, with_state, IsChanged, IsKept}
+use Rattle.lpt_ledger.specs.Marks.{Mark, Marks}
+use Rattle.lpt_ledger.specs.States.{state_at, state_of}
+use Rattle.lpt_ledger.specs.declared.page.Page.{Page}
+use Rattle.lpt_ledger.specs.declared.state.State.{State}
 use Rattle.lpt_ledger.proofs.ChangeLemmas.{marks-changed, marks-same, IsKept-changed, IsKept-same}
+use Rattle.lpt_ledger.proofs.MarksLemmas.{get-marks, state_of-mark_of}
 use Rattle.lpt_ledger.proofs.ledger.Ledger.change.Goals as goal
 use Rattle.lpt_ledger.proofs.ledger.Ledger.change.Goals.{After-change_page}
 
@@ -44,3 +48,24 @@ returns-clause-not_done c = λ is.
     marks-same c.self.inside.pages.entries c.change_page.new.pages.entries c.args.name
     (c.change_page.ensures.not_done is)
     ∙ c.self.view_is
+
+-- the state that its page says is the name's
+had_by : (es : List (Name × Page)) (m : Marks) (name first : Name) (place : ℕ) (o : Option State)
+    → marks es ≡ m
+    → first ≡ page_first name
+    → place ≡ name.id % 64
+    → IfSome o (λ s. mark_on (page_in es first) place ≡ mark_of s)
+    → IfSome o (λ s. state_at m name ≡ s)
+had_by es m name first place None seen is at h = h
+had_by es m name first place (Some s) seen is at h =
+    ap (λ (n : Marks). state_at n name) (sym seen)
+    ∙ ap (λ (o : Option Mark). state_of o) (get-marks es name
+    ∙ (λ i. mark_on (page_in es (sym is i)) (sym at i))
+    ∙ h)
+    ∙ state_of-mark_of s
+
+pub returns-clause-had : goal.returns-clause-had
+returns-clause-had c = λ is.
+    had_by c.self.inside.pages.entries c.args.self.now c.args.name c.first_among-first.result
+    c.from.result c.args.from c.self.view_is c.first_among-first.ensures c.from.ensures
+    (c.change_page.ensures.had is)

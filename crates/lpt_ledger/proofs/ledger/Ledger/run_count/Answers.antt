@@ -1,8 +1,8 @@
 -- Of runs that ascend no more come than there are names.
-use Rattle.std.proofs.Common.{◌≡◌, ◌∙◌, ap, sym, subst, ℕ, ◌+◌, ◌≤◌, ◌^◌, true, List, [], ◌∷◌, ◌++◌, length, append_assoc, length-append, arith}
+use Rattle.std.proofs.Common.{◌≡◌, ◌∙◌, ap, sym, subst, ◌≤◌, ◌^◌, true, List, [], ◌∷◌, ◌++◌, length, append_assoc, length-append, arith}
 use Rattle.std.proofs.lemmas.List.Elements.{All-push}
 use Rattle.lpt_ledger.specs.declared.run.NameRun.{NameRun}
-use Rattle.lpt_ledger.specs.Runs.{ascend, runs_of, IsRun}
+use Rattle.lpt_ledger.specs.Runs.{ascend, IsRun}
 use Rattle.lpt_ledger.proofs.AscendLemmas.{runs_ascend}
 use Rattle.lpt_ledger.proofs.FewLemmas.{few_first}
 use Rattle.lpt_ledger.proofs.ledger.Ledger.run_count.Goals as goal

@@ -1,5 +1,5 @@
 -- The first name is ahead.
-use Rattle.std.proofs.Common.{◌≡◌, ◌∙◌, ap, List}
+use Rattle.std.proofs.Common.{◌∙◌, ap, List}
 use Rattle.lpt_packet.specs.Names.{Name}
 use Rattle.lpt_ledger.specs.Runs.{runs_of_names}
 use Rattle.lpt_ledger.proofs.RunsLemmas.{ahead_is}

@@ -1,5 +1,5 @@
 -- A page of which no name is left is followed by the next one.
-use Rattle.std.proofs.Common.{◌≡◌, ◌∙◌, ap, sym, subst, ◌-◌, List, [], ◌∷◌, ◌++◌, Option, None, IfNone, arith}
+use Rattle.std.proofs.Common.{◌≡◌, ◌∙◌, ap, sym, subst, ◌-◌, List, [], ◌++◌, Option, IfNone, arith}
 use Rattle.lpt_packet.specs.Names.{Name}
 use Rattle.lpt_ledger.specs.declared.page.Page.{Page}
 use Rattle.lpt_ledger.specs.RunsInside.{listing, page_names, AllFirst}

@@ -1,5 +1,5 @@
 -- Page by page the names are those of the ledger.
-use Rattle.std.proofs.Common.{◌≡◌, ◌∙◌, ap, sym, subst, refl, List, ◌++◌, arith}
+use Rattle.std.proofs.Common.{◌∙◌, ap, sym, subst, refl, List, ◌++◌, arith}
 use Rattle.std.specs.FinMap as map
 use Rattle.lpt_packet.specs.Names.{Name}
 use Rattle.lpt_ledger.specs.declared.page.Page.{Page}

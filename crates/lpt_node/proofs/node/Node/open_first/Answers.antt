@@ -1,7 +1,6 @@
 -- The message is kept, and its sender open.
 use Rattle.std.proofs.Common.{◌∙◌, ap, sym, ℕ, List, Option, Some}
 use Rattle.lpt_packet.specs.Names.{Name}
-use Rattle.lpt_ledger.specs.LeastFree.{least_free_in}
 use Rattle.lpt_execution.specs.Reporting.{opened_of}
 use Rattle.lpt_node.specs.Nodes.{NodeView}
 use Rattle.lpt_node.specs.Sending.{message_opened}
@@ -11,7 +10,7 @@ use Rattle.lpt_node.proofs.node.Node.open_first.Goals as goal
 pub invariant_of-self : goal.invariant_of-self
 invariant_of-self c =
     sound-begun c.begin.result c.self.inside.config c.self.inside.senders c.begin.new.senders c.self.inside.receiver
-    c.self.inside.outgoing c.begin.new.outgoing c.in-Some-least_free.name c.in-Some.message
+    c.self.inside.outgoing c.begin.new.outgoing c.in-Some-name.name c.in-Some.message
     c.self.invariant
     c.begin.ensures.opened
     c.begin.ensures.kept
@@ -21,7 +20,7 @@ invariant_of-self c =
 pub invariant_of-self-2 : goal.invariant_of-self-2
 invariant_of-self-2 c =
     sound-begun c.begin.result c.self.inside.config c.self.inside.senders c.begin.new.senders c.self.inside.receiver
-    c.self.inside.outgoing c.begin.new.outgoing c.in-Some-least_free.name c.in-Some.message
+    c.self.inside.outgoing c.begin.new.outgoing c.in-Some-name.name c.in-Some.message
     c.self.invariant
     c.begin.ensures.opened
     c.begin.ensures.kept
@@ -48,14 +47,13 @@ returns-clause-at c =
       boot = c.self.inside.boot;
       jobs = c.self.inside.jobs;
     })
-    ∙ ap (λ (n : NodeView). message_opened n.at c.in-Some-least_free.name c.in-Some.message)
+    ∙ ap (λ (n : NodeView). message_opened n.at c.in-Some-name.name c.in-Some.message)
     c.self.view_is
-    ∙ ap (λ (m : List ℕ). message_opened c.args.self.now.at c.in-Some-least_free.name m)
+    ∙ ap (λ (m : List ℕ). message_opened c.args.self.now.at c.in-Some-name.name m)
     (sym c.in_ok-copy.ensures)
 
 pub returns-clause-opened : goal.returns-clause-opened
 returns-clause-opened c =
-    ap (λ (m : List ℕ). Some (c.in-Some-least_free.name, m)) c.in_ok-copy.ensures
-    ∙ ap (λ (ms : List (List ℕ)). opened_of (Some c.in-Some-least_free.name) ms) (sym c.in-Some.ensures.items ∙ c.into_iter.ensures.rest)
-    ∙ ap (λ (o : Option Name). opened_of o c.args.messages.items) c.in-Some-least_free.ensures.value
-    ∙ ap (λ (n : NodeView). opened_of (least_free_in n.at.sending.ledger c.args.source) c.args.messages.items) c.self.view_is
+    ap (λ (m : List ℕ). Some (c.in-Some-name.name, m)) c.in_ok-copy.ensures
+    ∙ ap (λ (ms : List (List ℕ)). opened_of (Some c.in-Some-name.name) ms) (sym c.in-Some.ensures.items ∙ c.into_iter.ensures.rest)
+    ∙ ap (λ (o : Option Name). opened_of o c.args.messages.items) (sym c.in-Some-name.is)
