@@ -1,8 +1,4 @@
-pub mod EscapeLemmas
-pub mod FlightLemmas
-pub mod RowLemmas
-pub mod ShapeTags
+pub mod ChartTags
 pub mod StoryLemmas
-pub mod TagLemmas
-pub mod ToldLemmas
 pub mod TrackLemmas
+pub mod ViewLemmas

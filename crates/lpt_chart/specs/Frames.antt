@@ -3,6 +3,8 @@ use Rattle.std.specs.Prelude.{◌≡◌, ℕ, ◌+◌, ◌-◌, ◌*◌, ◌&&�
 use Rattle.std.specs.Option.{option_map_or}
 use Rattle.lpt_packet.specs.declared.direction.Direction.{Direction}
 use Rattle.lpt_events.specs.Sides.{sender_side}
+use Rattle.lpt_events.specs.declared.lane.Lane.{Lane}
+use Rattle.lpt_events.specs.declared.lane.Lane.TheVariants.{S1, S2, G1, G2}
 use Rattle.lpt_events.specs.declared.side.Side.{Side}
 use Rattle.lpt_events.specs.declared.side.Side.TheVariants.{Ground, Craft}
 use Rattle.lpt_chart.specs.Types.{Choice, Frame, Picture, Row}
@@ -50,6 +52,13 @@ words_x f Craft = f.right
 abbrev pub column_x : Frame → Side → (column : ℕ) → ℕ
 column_x f Ground i = f.left - (30 + 12 * min i 63)
 column_x f Craft i = f.left + (410 + 12 * min i 63)
+
+-- a lane
+abbrev pub lane_x : Frame → Lane → ℕ
+lane_x f S1 = f.left + 340
+lane_x f S2 = f.left + 316
+lane_x f G1 = f.left + 40
+lane_x f G2 = f.left + 64
 
 -- where a packet that is put begins: noise has no sender, and begins in the middle of the link
 abbrev pub start_x : Frame → Direction → (noise : Bool) → ℕ

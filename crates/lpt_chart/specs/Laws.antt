@@ -1,5 +1,5 @@
 -- What holds of what is drawn of each journal.
-use Rattle.std.specs.Prelude.{◌≡◌, ℕ, ◌+◌, ◌&&◌, not, Bool, true, false, if◌then◌else◌, List, [], ◌∷◌, ◌++◌, map, filter, is_some}
+use Rattle.std.specs.Prelude.{◌≡◌, ℕ, ◌+◌, ◌&&◌, not, Bool, true, false, if◌then◌else◌, List, [], ◌∷◌, ◌++◌, map, filter}
 use Rattle.std.specs.List.{flat_map}
 use Rattle.lpt_events.specs.declared.entry.Entry.{Entry}
 use Rattle.lpt_events.specs.declared.event.Event.{Event}
@@ -11,7 +11,7 @@ use Rattle.lpt_events.specs.declared.reply.Answer.{Answer}
 use Rattle.lpt_events.specs.declared.reply.Answer.TheVariants as answer
 use Rattle.lpt_chart.specs.Types.{Flight, Head, Mark, Refusal}
 use Rattle.lpt_chart.specs.declared.marks.Mark.TheVariants as mark
-use Rattle.lpt_chart.specs.Stories.{blank, drawn_by, story}
+use Rattle.lpt_chart.specs.Stories.{story}
 
 -- a delivery: its place in the journal, its lane, and what became of the packet
 pub record Delivery : Type 0 where
@@ -25,11 +25,10 @@ delivery_in place (Deliver l) (answer.Delivered o) =
     record { place = place; lane = l; outcome = o } ∷ []
 delivery_in place _ _ = []
 
--- the deliveries of a journal from this place on
-abbrev pub deliveries_from : ℕ → List Entry → List Delivery
-deliveries_from place [] = []
-deliveries_from place (x ∷ xs) = delivery_in place x.event x.reply.answer ++ deliveries_from (place
-    + 1) xs
+-- what the entries of a journal have, each by its place, from this one on
+abbrev pub by_place : {A : Type 0} → (ℕ → Event → Answer → List A) → ℕ → List Entry → List A
+by_place has place [] = []
+by_place has place (x ∷ xs) = has place x.event x.reply.answer ++ by_place has (place + 1) xs
 
 -- the deliveries that flights draw
 abbrev pub shown_one : Flight → Delivery
@@ -49,47 +48,31 @@ is_release d = releases d.outcome
 
 -- the flights draw the deliveries of the journal, each once, in order, whatever lines were refused
 abbrev pub DrawsDeliveries : List Entry → List Refusal → Type 0
-DrawsDeliveries journal refused = shown_by (story journal refused).flights ≡ deliveries_from 0
-    journal
+DrawsDeliveries journal refused =
+    shown_by (story journal refused).flights ≡ by_place delivery_in 0 journal
 
 -- and so each release, once, in order
 abbrev pub DrawsReleases : List Entry → List Refusal → Type 0
 DrawsReleases journal refused =
     filter is_release (shown_by (story journal refused).flights)
-    ≡ filter is_release (deliveries_from 0 journal)
+    ≡ filter is_release (by_place delivery_in 0 journal)
 
--- a place, if this is so
-abbrev pub where_place : Bool → ℕ → List ℕ
-where_place so place = if so then place ∷ [] else []
+-- the place of an event that is no tick, whose row may tell of others too
+abbrev pub place_in : ℕ → Event → Answer → List ℕ
+place_in place (Tick side) a = []
+place_in place _ a = place ∷ []
 
 -- whether a row tells of ticks
 abbrev pub tells_ticks : Mark → Bool
 tells_ticks (mark.Ticks side) = true
 tells_ticks _ = false
 
--- whether an entry draws a row of its own: it does if nothing was drawn before, and is no tick,
--- which may go on with the last row
-abbrev pub is_tick : Event → Bool
-is_tick (Tick side) = true
-is_tick _ = false
-
-abbrev pub has_row : Event → Answer → Bool
-has_row e a = not (is_tick e) && is_some (drawn_by blank e a).last
-
--- the places of these entries of a journal, from this place on
-abbrev pub event_places : ℕ → List Entry → List ℕ
-event_places place [] = []
-event_places place (x ∷ xs) =
-    where_place (has_row x.event x.reply.answer) place ++ event_places (place + 1) xs
-
--- the places that rows show which tell of no ticks
+-- the place that a row shows, unless it tells of ticks
 abbrev pub shown_place : Head → List ℕ
-shown_place r = where_place (r.numbered && not (tells_ticks r.mark)) r.place
-
-abbrev pub shown_places : List Head → List ℕ
-shown_places rows = flat_map shown_place rows
+shown_place r = if r.numbered && not (tells_ticks r.mark) then r.place ∷ [] else []
 
 -- the rows show the places of the journal's events, each once, in order, whatever lines were
 -- refused
 abbrev pub DrawsEvents : List Entry → List Refusal → Type 0
-DrawsEvents journal refused = shown_places (story journal refused).rows ≡ event_places 0 journal
+DrawsEvents journal refused =
+    flat_map shown_place (story journal refused).rows ≡ by_place place_in 0 journal

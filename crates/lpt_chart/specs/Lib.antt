@@ -1,8 +1,7 @@
 pub mod Charts
 pub mod Frames
-pub mod Kinds
 pub mod Laws
-pub mod Shapes
+pub mod Scenes
 pub mod Stories
 pub mod Telling
 pub mod Tracks

@@ -1,9 +1,10 @@
 -- What is open at the nodes: the turns of a run, and the stretches of tracks that they make.
-use Rattle.std.specs.Prelude.{ℕ, Bool, true, false, ◌&&◌, ◌==◌, if◌then◌else◌, List, [], ◌∷◌, ◌++◌, map, Option, Some, None}
+use Rattle.std.specs.Prelude.{ℕ, Bool, true, false, ◌&&◌, ◌==◌, if◌then◌else◌, List, [], ◌∷◌, ◌++◌, Option, Some, None}
 use Rattle.std.specs.Option.{option_map_or}
 use Rattle.lpt_packet.specs.Names.{same_name}
 use Rattle.lpt_events.specs.Sides.{same_side}
-use Rattle.lpt_chart.specs.Types.{Bar, Stage, Thing, Track, Turn}
+use Rattle.lpt_events.specs.declared.side.Side.{Side}
+use Rattle.lpt_chart.specs.Types.{Bar, Stage, Thing, Turn}
 use Rattle.lpt_chart.specs.declared.tracks.Thing.TheVariants.{Sender, Reception, Job}
 
 -- whether two things are the same: senders or receptions of one name, or jobs of one number
@@ -13,16 +14,17 @@ same_thing (Reception a) (Reception b) = same_name a b
 same_thing (Job a) (Job b) = a == b
 same_thing _ _ = false
 
--- whether a turn is about what another one was about: the same thing, or all at its node
-abbrev pub is_about : Turn → Turn → Bool
-is_about turn other =
-    same_side turn.side other.side
-    && option_map_or (λ x. option_map_or (λ y. same_thing x y) other.thing false) turn.thing true
+-- whether a turn was about a thing at a node, or about some there
+abbrev pub is_about : Side → Option Thing → Turn → Bool
+is_about side thing turn =
+    same_side side turn.side
+    && option_map_or (λ x. option_map_or (λ y. same_thing x y) turn.thing false) thing true
 
 -- the height up to which it stays as a turn left it: that of the next turn about it, or the end
 abbrev pub stays_to : (end : ℕ) → Turn → List Turn → ℕ
 stays_to end t [] = end
-stays_to end t (next ∷ more) = if is_about next t then next.at else stays_to end t more
+stays_to end t (next ∷ more) =
+    if is_about next.side next.thing t then next.at else stays_to end t more
 
 -- a stretch of a track: what a turn began, up to a height
 pub record Stretch : Type 0 where
@@ -42,15 +44,3 @@ stretches end (t ∷ more) = stretch_of t (stays_to end t more) t.stage ++ stret
 -- the stretch that a bar draws
 abbrev pub drawn_in : Bar → Stretch
 drawn_in b = record { turn = b.track.turn; to = b.to }
-
--- the tracks that these bars have
-abbrev pub tracks_in : List Bar → List Track
-tracks_in bars = map (λ b. b.track) bars
-
--- what is drawn in all: bars, the stretches of open tracks, and those of the turns to come
-abbrev pub open_to : (end : ℕ) → (rest : List Turn) → Track → Stretch
-open_to end rest t = record { turn = t.turn; to = stays_to end t.turn rest }
-
-abbrev pub all_drawn : (end : ℕ) → (rest : List Turn) → (bars live : List Bar) → List Stretch
-all_drawn end rest bars live =
-    map drawn_in bars ++ (map (open_to end rest) (tracks_in live) ++ stretches end rest)

@@ -10,10 +10,7 @@ pub use Rattle.lpt_chart.specs.declared.marks.Refusal.{Refusal}
 pub use Rattle.lpt_chart.specs.declared.marks.Row.{Row}
 pub use Rattle.lpt_chart.specs.declared.marks.Sent.{Sent}
 pub use Rattle.lpt_chart.specs.declared.picture.Picture.{Picture}
-pub use Rattle.lpt_chart.specs.declared.shape.Free.{Free}
-pub use Rattle.lpt_chart.specs.declared.shape.Shape.{Shape}
-pub use Rattle.lpt_chart.specs.declared.shape.Sign.{Sign}
-pub use Rattle.lpt_chart.specs.declared.shape.Stripe.{Stripe}
+pub use Rattle.lpt_chart.specs.declared.scene.Step.{Step}
 pub use Rattle.lpt_chart.specs.declared.tracks.Bar.{Bar}
 pub use Rattle.lpt_chart.specs.declared.tracks.Stage.{Stage}
 pub use Rattle.lpt_chart.specs.declared.tracks.Thing.{Thing}

@@ -1,5 +1,5 @@
 -- What the head of a picture counts, and what a track is, in words.
-use Rattle.std.specs.Prelude.{ℕ, ◌==◌, if◌then◌else◌, List, [], ◌∷◌, ◌++◌, codes, decimal, Option, Some, None}
+use Rattle.std.specs.Prelude.{ℕ, ◌==◌, if◌then◌else◌, List, [], ◌∷◌, ◌++◌, codes, decimal, Option, Some, None, slice_get, unwrap_or}
 use Rattle.lpt_packet.specs.Directions.{direction_word}
 use Rattle.lpt_packet.specs.declared.direction.Direction.{Direction}
 use Rattle.lpt_packet.specs.declared.direction.Direction.TheVariants.{Up, Down}
@@ -7,15 +7,10 @@ use Rattle.lpt_events.specs.NameTexts.{name_text}
 use Rattle.lpt_events.specs.Sides.{direction_to}
 use Rattle.lpt_events.specs.declared.side.Side.{Side}
 use Rattle.lpt_events.specs.declared.side.Side.TheVariants.{Ground, Craft}
-use Rattle.lpt_chart.specs.Types.{Stage, Thing}
-use Rattle.lpt_chart.specs.declared.tracks.Stage.TheVariants.{Waits, Claimed, Committed}
+use Rattle.lpt_shapes.specs.Words.{joined}
+use Rattle.lpt_chart.specs.Types.{Stage, Thing, Track}
+use Rattle.lpt_chart.specs.declared.tracks.Stage.TheVariants.{Kept, Waits, Claimed, Committed}
 use Rattle.lpt_chart.specs.declared.tracks.Thing.TheVariants.{Sender, Reception, Job}
-
--- pieces of a text, one behind the other
-abbrev pub words_joined : List (List ℕ) → List ℕ
-words_joined [] = []
-words_joined (w ∷ []) = w
-words_joined (w ∷ v ∷ ws) = w ++ words_joined (v ∷ ws)
 
 -- what makes a word of more than one thing, behind it
 abbrev pub plural : (count : ℕ) → List ℕ
@@ -24,7 +19,7 @@ plural count = if count == 1 then [] else codes "s"
 -- how much has happened
 unfoldable pub counts_words : (events packets flights losses : ℕ) → List ℕ
 counts_words events packets flights losses =
-    words_joined
+    joined
     (decimal events ∷ codes " event" ∷ plural events ∷ codes ", " ∷ decimal packets ∷ codes
     " packet"
     ∷ plural packets ∷ codes ", " ∷ decimal flights ∷ codes " delivered, " ∷ decimal losses ∷ codes
@@ -46,12 +41,27 @@ stage_words _ = []
 unfoldable pub turn_words : (source : ℕ) → Side → Option Thing → Option Stage → List ℕ
 turn_words source side None stage = []
 turn_words source side (Some (Sender name)) stage =
-    words_joined
+    joined
     (codes "sender of " ∷ direction_word (direction_from side) ∷ codes " " ∷ name_text source name
     ∷ [])
 turn_words source side (Some (Reception name)) stage =
-    words_joined
+    joined
     (codes "reception of " ∷ direction_word (direction_to side) ∷ codes " " ∷ name_text source name
     ∷ [])
 turn_words source side (Some (Job number)) stage =
-    words_joined (codes "job " ∷ decimal number ∷ stage_words stage ∷ [])
+    joined (codes "job " ∷ decimal number ∷ stage_words stage ∷ [])
+
+-- how many parts a reception has kept
+abbrev pub kept_words : Option Stage → (kept : ℕ) → List ℕ
+kept_words (Some Kept) kept = codes ": kept " ++ decimal kept
+kept_words _ kept = []
+
+-- what a piece of a track is
+abbrev pub track_words : (source : ℕ) → Track → List ℕ
+track_words source t =
+    turn_words source t.turn.side t.turn.thing t.turn.stage ++ kept_words t.turn.stage t.kept
+
+-- what the group of a packet is: what is known of the packet, and its number
+abbrev pub packet_words : (words : List (List ℕ)) → (number : ℕ) → List ℕ
+packet_words words number =
+    unwrap_or (slice_get words number) [] ++ codes ", packet " ++ decimal number

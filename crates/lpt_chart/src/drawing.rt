@@ -1,20 +1,16 @@
 //! What each event draws.
 
-ghost use Rattle.std.specs.Prelude.{◌≡◌, ◌≤◌, false, fold, length, nat_lt, position, None, Some, IfOk, IfSome, OnOk};
-ghost use Rattle.lpt_events.specs.Lanes.{lane_direction};
-ghost use Rattle.lpt_events.specs.Sides.{receiver_side, sender_side};
-ghost use Rattle.lpt_chart.specs.Stories.{after, after_all, before, closed_story, comes_to, drawn_by, ends, loss_side, lost_now, node_restarted, own_puts, packet_put, refusal_row, said_row, story, story_of, taken_by};
+ghost use Rattle.std.specs.Prelude.{◌≡◌, ◌≤◌, fold, length, nat_lt, position, IfOk, IfSome, OnOk};
+ghost use Rattle.lpt_chart.specs.Stories.{after, after_all, before, own_put, own_puts, own_rows, refusal_row, story, story_of};
 
-use crate::marks::{About, Known, Mark, Refusal, Saying, Sketch};
-use crate::packets::NOTHING;
-use crate::picture::Picture;
-use crate::style::{Style, Weight};
-use crate::svg::plural;
-use crate::task::{asked_from, asked_in};
-use crate::tracks::{Stage, Thing};
-use crate::words::{job_words, lane_word, of_words, refusal_words, request_words};
-use lpt_events::{Answer, Entry, Event, Lane, Puts, Side, name_word};
-use lpt_packet::{Direction, Name, Octets};
+use crate::marks::{Head, Kind, Known, Mark, Refusal, Saying};
+use crate::picture::{Picture, plain_head};
+use crate::scene::mark_of;
+use crate::style::{REFUSED, Sign, Weight};
+use crate::tracks::Thing;
+use crate::words::{kind_words, look_of, refusal_words};
+use lpt_events::{Answer, Entry, Event, Outcome, Reply, Side};
+use lpt_packet::{Direction, Octets};
 use std::alloc::{AllocError, Global};
 
 /// What is drawn of a journal and of the lines that were refused, by what is known beside it.
@@ -27,13 +23,8 @@ pub(crate) fn draw_journal(
     ensures { IfOk result (λ p. story_of p ≡ story journal.now refused.now) }
 {
     let mut picture = Picture::new(alloc, known);
-    match picture.draw_all(journal, refused) {
-        Ok(()) => Ok(picture),
-        Err(error) => {
-            drop(picture);
-            Err(error)
-        }
-    }
+    picture.draw_all(journal, refused)?;
+    Ok(picture)
 }
 
 // The refused lines behind the entry of this place, if there are some.
@@ -60,7 +51,7 @@ impl Picture {
     #[tactic(auto, using(crate::proofs::StoryLemmas::entry_step))]
     fn draw_all(&mut self, journal: &[Entry], refused: &[Refusal]) -> Result<(), AllocError>
         ensures { OnOk result (story_of self.new
-            ≡ closed_story (after_all (story_of self.old) 0 journal.now refused.now)) }
+            ≡ after_all (story_of self.old) 0 journal.now refused.now) }
     {
         let mut rest = refused;
         for (place, entry) in journal.iter().enumerate() {
@@ -69,8 +60,7 @@ impl Picture {
             self.add(place as u64, entry)?;
             rest = back;
         }
-        self.refuse(rest)?;
-        self.settle()
+        self.refuse(rest)
     }
 
     // Draws refused lines.
@@ -84,247 +74,108 @@ impl Picture {
         Ok(())
     }
 
-    // Draws a refused line.
+    // Draws a refused line, at ground, which wrote it.
     fn add_refusal(&mut self, refusal: &Refusal) -> Result<(), AllocError>
         ensures { OnOk result (story_of self.new ≡ refusal_row (story_of self.old) refusal.now) }
     {
         let says = Saying {
             weight: Weight::Quiet,
-            sketch: Sketch::Refused,
+            sign: Some(REFUSED),
             words: refusal_words(self.alloc(), refusal)?,
         };
-        self.place = refusal.place;
-        self.row(self.next, false, false, refusal.side, Mark::Nothing, says)
+        self.show(false, plain_head(refusal.place, self.next), says, 0)
     }
 
     // Draws the entry of this place.
+    #[tactic(auto, unfolding(crate::specs::Stories::event_drawn))]
     fn add(&mut self, place: u64, entry: &Entry) -> Result<(), AllocError>
         ensures { OnOk result (story_of self.new ≡ after (story_of self.old) place entry.now) }
     {
-        self.place = place;
-        self.draw(&entry.event, entry.reply.answer)?;
-        self.report(own_puts(&entry.event, entry.reply.puts))
+        let (event, reply) = (&entry.event, &entry.reply);
+        let (side, mark) = (self.side_of(event), mark_of(event, reply.answer));
+        let first = self.first_step(event, reply.answer);
+        let second = self.second_step(event, reply.answer);
+        let (kept, parts) = self.share_by(place, event, reply.answer);
+        self.ticks = self.ticks_then(mark);
+        let (weight, sign) = look_of(event, reply.answer);
+        let words = self.words_of(event, reply, (kept, parts))?;
+        self.say(place, side, mark, saying(weight, sign, words), parts)?;
+        self.turn(side, first, kept, parts)?;
+        self.turn(side, second, kept, parts)?;
+        self.report(own_puts(reply))
     }
 
-    // Draws an event by its answer.
-    fn draw(&mut self, event: &Event, answer: Answer) -> Result<(), AllocError>
-        ensures { OnOk result (story_of self.new ≡ drawn_by (story_of self.old) event.now answer) }
-    {
-        let alloc = self.alloc();
+    // How many parts are kept of the message that an event is about, and how many it has, as far as
+    // that is known.
+    fn share_by(&self, place: u64, event: &Event, answer: Answer) -> (u16, u16) {
         match (event, answer) {
-            (Event::Open(direction, name, message), Answer::Opened(parts)) => {
-                self.open(*direction, *name, message, parts)
+            (Event::Send(direction, name, _), _) => {
+                self.share_at(Side::sender(*direction), Thing::Sender(*name))
             }
-            (Event::Send(direction, name, part), Answer::Put(number)) => {
-                self.send(*direction, *name, *part, number)
+            (Event::Deliver(lane), Answer::Delivered(Outcome::Kept(name, _))) => {
+                let (kept, _) = self.share_at(lane.receiver(), Thing::Reception(name));
+                let parts = match self.hand(*lane) {
+                    Some(held) => self.parts.get(held.number as usize).copied(),
+                    None => None,
+                };
+                (kept.saturating_add(1), parts.unwrap_or(0))
             }
-            (Event::Plain(_, _, service, subtype, body), Answer::Put(number)) => {
-                let task = Some(asked_from(*service, *subtype, body.as_slice()));
-                let words = request_words(alloc, *service, *subtype)?;
-                self.put_packet(
-                    Direction::Up,
-                    number,
-                    false,
-                    About { parts: 0, task },
-                    words,
-                )
+            (_, Answer::Expired(direction, name)) => {
+                self.share_at(Side::receiver(direction), Thing::Reception(name))
             }
-            (Event::Finish(direction, name), Answer::Finished) => self.finish(*direction, *name),
-            (Event::Lose(number), Answer::Lost) => self.lose_packet(*number),
-            (Event::Damage(direction, octets), Answer::Put(number)) => {
-                let octets = octets.as_slice().len();
-                let s = plural(octets as u64);
-                let words = format!(in alloc; "noise: {octets} octet{s}")?;
-                self.put_packet(*direction, number, true, NOTHING, words)
-            }
-            (Event::Take(lane, number), Answer::Took(_)) => self.take_packet(*lane, *number),
-            (Event::Deliver(lane), Answer::Delivered(outcome)) => self.deliver(*lane, outcome),
-            (Event::Tick(side), Answer::Clock(clock)) => self.tick(*side, clock),
-            (Event::Expire(_), Answer::Expired(direction, name)) => self.expire(direction, name),
-            (Event::Claim(worker), Answer::Claimed(boot, job)) => {
-                let words = job_words(alloc, *worker, "claims", boot, job)?;
-                self.work(job, Stage::Claimed, words)
-            }
-            (Event::Commit(worker), Answer::Committed(boot, job)) => {
-                let words = job_words(alloc, *worker, "commits", boot, job)?;
-                self.work(job, Stage::Committed, words)
-            }
-            (Event::Commit(worker), Answer::Stale(boot, job)) => {
-                let words = job_words(alloc, *worker, "hands in", boot, job)?;
-                let words = format!(in alloc; "{words}: stale")?;
-                let side = Side::Craft;
-                self.say(Mark::Nothing, side, Weight::Plain, Sketch::Stale, words)
-            }
-            (Event::Apply, Answer::Applied(applied)) => self.execute(applied),
-            (Event::Retire(direction, name), Answer::Retired) => {
-                let (way, word) = (direction.word(), name_word(self.known.source, *name));
-                let words = format!(in alloc; "retired {way} {word}")?;
-                let side = Side::sender(*direction);
-                self.say(Mark::Nothing, side, Weight::Plain, Sketch::Retired, words)
-            }
-            (Event::Restart(side), Answer::Restarted(boot)) => self.restart(*side, boot),
-            _ => Ok(()),
+            _ => match self.known.about.get(place as usize) {
+                Some(about) => (0, about.parts),
+                None => (0, 0),
+            },
         }
     }
 
-    // A message is opened.
-    fn open(
-        &mut self,
-        direction: Direction,
-        name: Name,
-        message: &Octets,
-        parts: u16,
-    ) -> Result<(), AllocError>
-        ensures { OnOk result (story_of self.new ≡ comes_to
-            (said_row (story_of self.old) (sender_side direction) Mark.Nothing)
-            (sender_side direction) (Thing.Sender name) Stage.Sending) }
+    // So many packets of the spacecraft's own, each with a row.
+    fn report(&mut self, count: u64) -> Result<(), AllocError>
+        ensures { OnOk result (story_of self.new ≡ own_rows count (story_of self.old)) }
     {
-        let (side, octets) = (Side::sender(direction), message.as_slice().len());
-        let task = asked_in(direction, message.as_slice());
-        let (way, word) = (direction.word(), name_word(self.known.source, name));
-        let words = format!(in self.alloc(); "open {way} {word}: {octets} octets, {parts} parts")?;
-        self.say(
-            Mark::Nothing,
-            side,
-            Weight::Plain,
-            Sketch::Square(Style::Opened),
-            words,
-        )?;
-        let (thing, about) = (Some(Thing::Sender(name)), About { parts, task });
-        self.turn(side, thing, Some(Stage::Sending), 0, about)
+        for _ in 0..count {
+            self.put_own()?;
+        }
+        Ok(())
     }
 
-    // A part is put. Of how many, and what its message asks for, is known of the open sender.
-    fn send(
-        &mut self,
-        direction: Direction,
-        name: Name,
-        part: u16,
-        number: u64,
-    ) -> Result<(), AllocError>
-        ensures { OnOk result
-            (story_of self.new ≡ packet_put (story_of self.old) direction number false) }
+    // A packet of the spacecraft's own, which is a report, with a row that goes on with the last.
+    #[tactic(auto, unfolding(crate::specs::Stories::own_put))]
+    fn put_own(&mut self) -> Result<(), AllocError>
+        ensures { OnOk result (story_of self.new ≡ own_put (story_of self.old)) }
     {
-        let (_, about) = self.known_of(Side::sender(direction), Thing::Sender(name));
-        let of = of_words(self.alloc(), about.parts)?;
-        let (way, word) = (direction.word(), name_word(self.known.source, name));
-        let words = format!(in self.alloc(); "{way} {word} part {part}{of}")?;
-        self.put_packet(direction, number, false, about, words)
-    }
-
-    // A sender is closed.
-    fn finish(&mut self, direction: Direction, name: Name) -> Result<(), AllocError>
-        ensures { OnOk result (story_of self.new ≡ ends
-            (said_row (story_of self.old) (sender_side direction) Mark.Nothing)
-            (sender_side direction) (Thing.Sender name)) }
-    {
-        let (way, word) = (direction.word(), name_word(self.known.source, name));
-        let (side, sketch) = (Side::sender(direction), Sketch::Square(Style::Finished));
-        let words = format!(in self.alloc(); "finished {way} {word}")?;
-        self.say(Mark::Nothing, side, Weight::Plain, sketch, words)?;
-        self.end(side, Thing::Sender(name))
-    }
-
-    // A packet is lost. Its row stands at ground if there is no such packet.
-    fn lose_packet(&mut self, number: u64) -> Result<(), AllocError>
-        ensures { OnOk result
-            (story_of self.new ≡ lost_now (said_row (story_of self.old)
-            (loss_side (story_of self.old) number) Mark.Nothing) number) }
-    {
-        let side = match self.sent.get(number as usize) {
-            Some(sent) => Side::sender(sent.direction),
-            None => Side::Ground,
+        let kind = match self.known.kinds.get(self.sent.len()) {
+            Some(kind) => *kind,
+            None => Kind::of(&[]),
         };
-        let words = format!(in self.alloc(); "packet {number} is lost")?;
-        self.say(Mark::Nothing, side, Weight::Plain, Sketch::Nothing, words)?;
-        self.lose(number)
-    }
-
-    // A lane takes a packet.
-    fn take_packet(&mut self, lane: Lane, number: u64) -> Result<(), AllocError>
-        ensures { OnOk result
-            (story_of self.new ≡ taken_by (said_row (story_of self.old)
-            (receiver_side (lane_direction lane)) (Mark.Took lane)) lane number) }
-    {
-        let word = lane_word(lane);
-        let words = format!(in self.alloc(); "{word} takes {number}")?;
-        self.say(
-            Mark::Took(lane),
-            lane.receiver(),
-            Weight::Quiet,
-            Sketch::Nothing,
-            words,
-        )?;
-        self.take(lane, number);
-        Ok(())
-    }
-
-    // A reception has expired.
-    fn expire(&mut self, direction: Direction, name: Name) -> Result<(), AllocError>
-        ensures { OnOk result (story_of self.new ≡ ends
-            (said_row (story_of self.old) (receiver_side direction) Mark.Nothing)
-            (receiver_side direction) (Thing.Reception name)) }
-    {
-        let (side, thing) = (Side::receiver(direction), Thing::Reception(name));
-        let (kept, about) = self.known_of(side, thing);
-        let of = of_words(self.alloc(), about.parts)?;
-        let (way, word) = (direction.word(), name_word(self.known.source, name));
-        let words = format!(in self.alloc(); "expired {way} {word}: {kept}{of}")?;
-        self.say(Mark::Nothing, side, Weight::Strong, Sketch::Expired, words)?;
-        self.end(side, thing)
-    }
-
-    // A worker brings a job to a stage.
-    fn work(&mut self, job: u64, stage: Stage, words: String) -> Result<(), AllocError>
-        ensures { OnOk result (story_of self.new ≡ comes_to
-            (said_row (story_of self.old) Side.Craft Mark.Nothing)
-            Side.Craft (Thing.Job job) stage) }
-    {
-        let (side, thing) = (Side::Craft, Some(Thing::Job(job)));
-        self.say(Mark::Nothing, side, Weight::Plain, Sketch::Nothing, words)?;
-        self.turn(side, thing, Some(stage), 0, NOTHING)
-    }
-
-    // A node is restarted.
-    #[tactic(auto, unfolding(crate::specs::Stories::node_restarted))]
-    fn restart(&mut self, side: Side, boot: u64) -> Result<(), AllocError>
-        ensures { OnOk result (story_of self.new
-            ≡ node_restarted (said_row (story_of self.old) side Mark.Nothing) side) }
-    {
-        let words = format!(in self.alloc(); "starts anew: boot {boot}")?;
-        self.say(
-            Mark::Nothing,
-            side,
-            Weight::Strong,
-            Sketch::Restarted,
-            words,
-        )?;
-        self.turn(side, None, None, 0, NOTHING)?;
-        match side {
-            Side::Ground => {}
-            Side::Craft => {
-                self.boot = boot;
-                self.tasks.clear();
-                self.applied = 0;
-            }
-        }
-        Ok(())
+        let words = kind_words(self.alloc(), "report ", kind)?;
+        let says = saying(Weight::Quiet, None, words);
+        let head = Head {
+            side: Side::Craft,
+            mark: Mark::Put(Direction::Down, self.sent.len() as u64, false),
+            ..plain_head(self.last.place, self.next)
+        };
+        self.show(true, head, says, 0)
     }
 }
 
-// How many packets of its own an event puts.
-fn own_puts(event: &Event, puts: Option<Puts>) -> u64
-    ensures { result ≡ own_puts event.now puts }
+// What a row says in these words.
+fn saying(weight: Weight, sign: Option<Sign>, words: String) -> Saying {
+    let words = Octets::from_vec(words.into_bytes());
+    Saying {
+        weight,
+        sign,
+        words,
+    }
+}
+
+// How many packets of its own an event puts, beside the one that it asks for.
+fn own_puts(reply: &Reply) -> u64
+    ensures { result ≡ own_puts reply.now }
 {
-    let count = match puts {
-        Some(puts) => puts.count,
-        None => 0,
-    };
-    match event {
-        Event::Deliver(_) | Event::Expire(_) | Event::Apply => count,
-        Event::Open(_, _, _) | Event::Send(_, _, _) | Event::Plain(_, _, _, _, _) => 0,
-        Event::Lose(_) | Event::Damage(_, _) | Event::Take(_, _) | Event::Finish(_, _) => 0,
-        Event::Tick(_) | Event::Claim(_) | Event::Commit(_) => 0,
-        Event::Retire(_, _) | Event::Restart(_) => 0,
+    match (reply.answer, reply.puts) {
+        (Answer::Put(_), _) | (_, None) => 0,
+        (_, Some(puts)) => puts.count,
     }
 }

@@ -1,13 +1,14 @@
 //! Which rows are drawn, and where things stand in a picture, in whole pixels.
 
 ghost use Rattle.std.specs.Prelude.{◌≡◌, ◌+◌, ◌<◌, ◌≤◌, ◌^◌, length, nat_le, nat_lt, position};
-ghost use Rattle.lpt_chart.specs.Frames.{IsFrame, column_x, height_of, hidden_above, row_end, shows, side_x, words_x, y_of};
+ghost use Rattle.lpt_chart.specs.Frames.{IsFrame, column_x, height_of, hidden_above, lane_x, row_end, shows, side_x, start_x, words_x, y_of};
 
 use crate::marks::{Choice, Row};
 use crate::picture::{Picture, is_side};
-use crate::title::{title_room, title_wide};
+use crate::title::title_wide;
 use crate::tracks::Bar;
 use lpt_events::{Lane, Side};
+use lpt_packet::Direction;
 
 /// Where the columns of a picture stand: the right edge of the words at ground's side; the middle
 /// of ground's line of life, from which the spacecraft's is 380 pixels right; the left edge of the
@@ -119,7 +120,11 @@ pub(crate) fn frame_of(choice: Choice, title: &[u8], bars: &[Bar], picture: &Pic
     let left = words + (46 + 12 * columns_at(Side::Ground, bars));
     let right = left + (420 + 12 * columns_at(Side::Craft, bars));
     let wide = right + (24 + wide_of(widest_at(Side::Craft, rows)));
-    let room = title_room(title, title_wide(wide));
+    let room = if title.len() <= title_wide(wide) {
+        0
+    } else {
+        24
+    };
     Frame {
         words,
         left,
@@ -134,69 +139,82 @@ pub(crate) fn frame_of(choice: Choice, title: &[u8], bars: &[Bar], picture: &Pic
 
 /// A height in pixels: the middle of the row there.
 #[tactic(auto, unfolding(crate::specs::Frames::y_of))]
-pub(crate) fn y_of(at: u32) -> u64
+pub(crate) fn y_of(at: u32) -> u128
     ensures value { result ≡ y_of at }
     ensures room { 11 ≤ result }
     ensures small { result < 2 ^ 36 }
 {
-    11 * u64::from(at) + 11
+    11 * u128::from(at) + 11
 }
 
 /// A node's line of life.
-pub(crate) fn side_x(frame: Frame, side: Side) -> u64
+pub(crate) fn side_x(frame: Frame, side: Side) -> u128
     ensures value { result ≡ side_x frame side }
     ensures small { result < 2 ^ 33 }
 {
     match side {
-        Side::Ground => u64::from(frame.left),
-        Side::Craft => u64::from(frame.left) + 380,
+        Side::Ground => u128::from(frame.left),
+        Side::Craft => u128::from(frame.left) + 380,
     }
 }
 
 /// Where the words of a node's rows end or begin.
-pub(crate) fn words_x(frame: Frame, side: Side) -> u64
+pub(crate) fn words_x(frame: Frame, side: Side) -> u128
     ensures { result ≡ words_x frame side }
 {
     match side {
-        Side::Ground => u64::from(frame.words),
-        Side::Craft => u64::from(frame.right),
+        Side::Ground => u128::from(frame.words),
+        Side::Craft => u128::from(frame.right),
     }
 }
 
 /// The middle of the link.
-pub(crate) fn middle_x(frame: Frame) -> u64
+pub(crate) fn middle_x(frame: Frame) -> u128
     ensures value { result ≡ frame.left + 190 }
     ensures small { result < 2 ^ 33 }
 {
-    u64::from(frame.left) + 190
+    u128::from(frame.left) + 190
+}
+
+/// Where a packet that is put begins. Noise has no sender, and begins in the middle of the link.
+pub(crate) fn start_x(frame: Frame, direction: Direction, noise: bool) -> u128
+    ensures value { result ≡ start_x frame direction noise }
+    ensures small { result < 2 ^ 33 }
+{
+    if noise {
+        middle_x(frame)
+    } else {
+        side_x(frame, Side::sender(direction))
+    }
 }
 
 /// A lane.
-pub(crate) fn lane_x(frame: Frame, lane: Lane) -> u64
-    ensures { result < 2 ^ 33 }
+pub(crate) fn lane_x(frame: Frame, lane: Lane) -> u128
+    ensures value { result ≡ lane_x frame lane }
+    ensures small { result < 2 ^ 33 }
 {
     match lane {
-        Lane::S1 => u64::from(frame.left) + 340,
-        Lane::S2 => u64::from(frame.left) + 316,
-        Lane::G1 => u64::from(frame.left) + 40,
-        Lane::G2 => u64::from(frame.left) + 64,
+        Lane::S1 => u128::from(frame.left) + 340,
+        Lane::S2 => u128::from(frame.left) + 316,
+        Lane::G1 => u128::from(frame.left) + 40,
+        Lane::G2 => u128::from(frame.left) + 64,
     }
 }
 
 /// The middle of a column; the last stands for all beyond.
-pub(crate) fn column_x(frame: Frame, side: Side, column: u64) -> u64
+pub(crate) fn column_x(frame: Frame, side: Side, column: u64) -> u128
     ensures value { result ≡ column_x frame side column }
     ensures small { result < 2 ^ 40 }
 {
-    let outward = 12 * column.min(63);
+    let outward = 12 * u128::from(column.min(63));
     match side {
-        Side::Ground => u64::from(frame.left).saturating_sub(30 + outward),
-        Side::Craft => u64::from(frame.left) + (410 + outward),
+        Side::Ground => u128::from(frame.left).saturating_sub(30 + outward),
+        Side::Craft => u128::from(frame.left) + (410 + outward),
     }
 }
 
 /// Half the width of a bead with this number.
-pub(crate) fn half(number: u64) -> u64
+pub(crate) fn half(number: u64) -> u128
     ensures { result ≤ 17 }
 {
     if number < 10 {
@@ -217,19 +235,6 @@ pub(crate) fn holds(frame: Frame, at: u32) -> bool
     shows(frame, at, at)
 }
 
-/// So far from a point toward another, or beside it if both are one above the other.
-pub(crate) fn toward(x: u64, to: u64, far: u8, beside: u8) -> u64
-    requires { x < 2 ^ 40 }
-{
-    if x < to {
-        x + u64::from(far)
-    } else if to < x {
-        x.saturating_sub(u64::from(far))
-    } else {
-        x + u64::from(beside)
-    }
-}
-
 /// Whether some of these heights is drawn.
 pub(crate) fn shows(frame: Frame, first: u32, last: u32) -> bool
     ensures { result ≡ shows frame first last }
@@ -238,30 +243,22 @@ pub(crate) fn shows(frame: Frame, first: u32, last: u32) -> bool
 }
 
 /// The height of the rows that are drawn.
-pub(crate) fn rows_high(frame: Frame) -> u64
+pub(crate) fn rows_high(frame: Frame) -> u128
     ensures { result < 2 ^ 40 }
 {
-    11 * u64::from(frame.bottom.saturating_sub(frame.top))
+    11 * u128::from(frame.bottom.saturating_sub(frame.top))
 }
 
 /// The top of the nodes' boxes below the rows.
-pub(crate) fn foot_y(frame: Frame) -> u64
+pub(crate) fn foot_y(frame: Frame) -> u128
     ensures { result < 2 ^ 41 }
 {
-    u64::from(frame.window) + rows_high(frame) + 8
+    u128::from(frame.window) + rows_high(frame) + 8
 }
 
 /// The height of a legend of so many samples, three in a row.
-pub(crate) fn legend_high(keys: usize) -> u64
-    requires { keys ≤ 25 }
-    ensures { result ≤ 198 }
+pub(crate) fn legend_high(keys: usize) -> u128
+    ensures { result < 2 ^ 70 }
 {
-    22 * ((keys as u64 + 2) / 3)
-}
-
-/// The height of a picture with such a legend.
-pub(crate) fn whole_high(frame: Frame, keys: usize) -> u64
-    requires { keys ≤ 25 }
-{
-    foot_y(frame) + 44 + legend_high(keys) + 20
+    22 * ((keys as u128 + 2) / 3)
 }

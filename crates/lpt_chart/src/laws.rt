@@ -1,13 +1,12 @@
 //! What the definitions say of pictures, proved of all of them: functions with empty bodies.
 
 ghost use Rattle.std.specs.Prelude.{◌≡◌, ℕ, List, true};
-ghost use Rattle.std.specs.List.{list_all};
 ghost use Rattle.lpt_events.specs.declared.entry.Entry.{Entry};
 ghost use Rattle.lpt_chart.specs.declared.marks.Choice.{Choice};
 ghost use Rattle.lpt_chart.specs.declared.marks.Refusal.{Refusal};
+ghost use Rattle.lpt_shapes.specs.Tags.{is_tagged};
 ghost use Rattle.lpt_chart.specs.Charts.{IsChart};
 ghost use Rattle.lpt_chart.specs.Laws.{DrawsDeliveries, DrawsEvents, DrawsReleases};
-ghost use Rattle.lpt_chart.specs.Shapes.{text_escaped, is_plain, is_tagged, looks_known};
 
 /// Each event of a journal but ticks has a row of its own, which shows its place, in order: packets
 /// put, lost and delivered, what receptions and jobs came to, restarts, and the others.
@@ -24,16 +23,10 @@ pub fn each_delivery_is_drawn_once()
         → DrawsReleases journal refused }
 {}
 
-/// What is written of a text neither opens nor closes an element, and is ASCII that is seen.
-pub fn escaped_texts_are_plain()
-    ensures { (t : List ℕ) → list_all is_plain (text_escaped t) ≡ true }
-{}
-
 /// Each '<' of a picture opens or closes one of these: `svg`, `title`, `desc`, `style`, `g`,
-/// `text`, `path` and `rect`. Each attribute of a look is one of nine.
+/// `text`, `path` and `rect`.
 pub fn each_element_is_known()
-    ensures elements { (source : ℕ) (c : Choice) (title : List ℕ) (journal : List Entry)
+    ensures { (source : ℕ) (c : Choice) (title : List ℕ) (journal : List Entry)
         (refused : List Refusal) (text : List ℕ) → IsChart source c title journal refused text
         → is_tagged text ≡ true }
-    ensures attributes { looks_known ≡ true }
 {}

@@ -1,221 +1,173 @@
 //! The legend: what is in the picture, each mark with its words, three in a row.
 
-ghost use Rattle.std.specs.Prelude.{◌≡◌, ◌<◌, ◌≤◌, ◌^◌, length, IfOk, OnOk};
-ghost use Rattle.lpt_chart.specs.Telling.{tellings};
+ghost use Rattle.std.specs.Prelude.{◌≡◌, OnOk};
+ghost use Rattle.lpt_shapes.specs.Shapes.{tellings};
 
-use crate::flight::{add_open, release_ring};
 use crate::frame::y_of;
-use crate::marks::About;
-use crate::packets::NOTHING;
-use crate::row::{add_double, add_rest, cross, ring, square, stripe_of};
-use crate::shape::{Free, Shape, Sign, box_round, draw};
-use crate::style::{Letters, Style, WHITE};
-use crate::tracks::{Stage, Track, Turn};
-use lpt_events::Side;
-use lpt_packet::{Direction, Octets};
+use crate::shape::{add_letters, bead_box, sign_at};
+use crate::style::{
+    Both, CLAIMED, COMMITTED, CROSS, EXPIRED, FINISHED, IGNORED, IN_HAND, KEPT, LATE, NOISE,
+    OPEN_UP, OPENED, PUT, RECEPTION, REFUSED, RESTARTED, RETIRED, RING, SENDER, Sign, TICK, WAITS,
+    WAY, WAY_AGAIN, WAY_NOISE, way,
+};
+use lpt_packet::Direction;
+use lpt_shapes::{Shape, draw};
 use std::alloc::{AllocError, Global};
 
-/// What the legend can explain, by which sample, in these words: packets on the link, what becomes
-/// of them, and what is open.
-const KEYS: [(Style, Direction, &str); 25] = [
-    (Style::Way, Direction::Up, "packet up"),
-    (Style::Way, Direction::Down, "packet down"),
-    (Style::WayAgain, Direction::Up, "taken once more"),
-    (Style::WayNoise, Direction::Up, "what noise left"),
-    (Style::InHand, Direction::Up, "in a lane's hand"),
-    (Style::Waiting, Direction::Up, "stays on the link"),
-    (Style::Late, Direction::Up, "lost after a lane took it"),
-    (Style::Cross, Direction::Up, "lost"),
-    (Style::Expired, Direction::Up, "reception expired"),
-    (Style::Hollow, Direction::Up, "packet 0 put on the link"),
-    (Style::Kept, Direction::Up, "part kept"),
-    (Style::Dashed, Direction::Up, "kept before, or ignored"),
-    (Style::Noted, Direction::Down, "report noted"),
-    (Style::Ring, Direction::Up, "message released"),
-    (
-        Style::Retiring,
-        Direction::Up,
-        "identifier free at both ends",
-    ),
-    (Style::Opened, Direction::Up, "message opened; no request"),
-    (
-        Style::Finished,
-        Direction::Up,
-        "sender finished; job executed",
-    ),
-    (Style::Sender, Direction::Up, "open sender"),
-    (
-        Style::Reception,
-        Direction::Up,
-        "reception: kept of all parts",
-    ),
-    (Style::JobWaits, Direction::Up, "job released, waits"),
-    (Style::JobHollow, Direction::Up, "job claimed by a worker"),
-    (
-        Style::JobFilled,
-        Direction::Up,
-        "reading of the job committed",
-    ),
-    (Style::Tick, Direction::Up, "a clock goes on"),
-    (Style::Restart, Direction::Up, "node starts anew"),
-    (Style::Refused, Direction::Up, "line refused"),
-];
-
-// What a look stands for: up and down the same but for ways, and noise as its way.
-fn kind(look: u8) -> u8 {
-    match look {
-        22 | 36 | 37 => 21,
-        38..=49 => look - 15,
-        _ => look,
-    }
+/// What is drawn in front of a key's words: a way, a bead so round, a piece of a track of half this
+/// width, or a sign.
+#[derive(Clone, Copy)]
+pub(crate) enum Sample {
+    Way,
+    Bead(u8),
+    Piece(u8),
+    Sign(&'static str),
 }
 
-// Whether a shape has a look that stands for the same.
-fn has(shape: &Shape, look: u8) -> bool {
+/// A sample, how it looks, and what it is.
+pub(crate) type Key = (Sample, &'static str, &'static str);
+
+/// What the legend can explain: packets on the link, what becomes of them, and what is open.
+const KEYS: [(Sample, Direction, Both, &str); 17] = [
+    (Sample::Way, Direction::Up, WAY, "packet up"),
+    (Sample::Way, Direction::Down, WAY, "packet down"),
+    (Sample::Way, Direction::Up, WAY_AGAIN, "taken once more"),
+    (Sample::Way, Direction::Up, WAY_NOISE, "what noise left"),
+    (Sample::Way, Direction::Up, IN_HAND, "in a lane's hand"),
+    (
+        Sample::Way,
+        Direction::Up,
+        LATE,
+        "lost after a lane took it",
+    ),
+    (
+        Sample::Bead(7),
+        Direction::Up,
+        PUT,
+        "packet put on the link",
+    ),
+    (Sample::Bead(0), Direction::Up, NOISE, "noise on the link"),
+    (
+        Sample::Bead(7),
+        Direction::Up,
+        KEPT,
+        "part kept or request released",
+    ),
+    (Sample::Bead(0), Direction::Down, KEPT, "report noted"),
+    (
+        Sample::Bead(7),
+        Direction::Up,
+        IGNORED,
+        "kept before, or ignored",
+    ),
+    (Sample::Bead(10), Direction::Up, RING, "message released"),
+    (Sample::Piece(2), Direction::Up, SENDER, "open sender"),
+    (
+        Sample::Piece(3),
+        Direction::Up,
+        RECEPTION,
+        "reception, the wider the fuller",
+    ),
+    (
+        Sample::Piece(2),
+        Direction::Up,
+        WAITS,
+        "job released, waits",
+    ),
+    (
+        Sample::Piece(4),
+        Direction::Up,
+        CLAIMED,
+        "job claimed by a worker",
+    ),
+    (
+        Sample::Piece(4),
+        Direction::Up,
+        COMMITTED,
+        "reading of the job committed",
+    ),
+];
+
+/// The signs that it can explain.
+const SIGNS: [(Sign, &str); 9] = [
+    (OPEN_UP, "stays on the link"),
+    (CROSS, "lost"),
+    (EXPIRED, "reception expired"),
+    (RETIRED, "identifier free at both ends"),
+    (OPENED, "message opened; no request"),
+    (FINISHED, "sender finished; job executed"),
+    (TICK, "a clock goes on"),
+    (RESTARTED, "node starts anew"),
+    (REFUSED, "line refused"),
+];
+
+// Whether a shape is one that looks so.
+fn looks(shape: &Shape, look: &str) -> bool {
     match shape {
-        Shape::Free(
-            Free::Line(_, _, _, _, other)
-            | Free::Box(_, _, _, _, _, other)
-            | Free::Sign(_, _, _, other),
-        ) => kind(*other) == kind(look),
-        Shape::Track(_, _, stripe) => kind(stripe.look) == kind(look),
+        Shape::Line(_, _, _, _, other)
+        | Shape::Box(_, _, _, _, _, other)
+        | Shape::Bar(_, _, _, _, other)
+        | Shape::Sign(_, _, _, other) => *other == look,
         _ => false,
     }
 }
 
-// The look of a style, in its direction if it has one.
-fn look_of(style: Style, direction: Direction) -> u8 {
-    if (style as u8) < (Style::Way as u8) {
-        style.plain()
-    } else {
-        style.way(direction)
-    }
+// Whether some shape does.
+fn is_used(shapes: &[Shape], look: &str) -> bool {
+    shapes.iter().any(|shape| looks(shape, look))
 }
 
-/// The places of those keys of which one of the shapes has the look.
-pub(crate) fn used_keys(alloc: Global, shapes: &[Shape]) -> Result<Vec<usize>, AllocError>
-    ensures { IfOk result (λ v. length v.items ≤ 25) }
-{
+/// The keys of which some shape has the look.
+pub(crate) fn used_keys(alloc: Global, shapes: &[Shape]) -> Result<Vec<Key>, AllocError> {
     let mut used = Vec::new(alloc);
-    for (place, (style, direction, _)) in KEYS.iter().enumerate() {
-        let look = look_of(*style, *direction);
-        if shapes.iter().any(|shape| has(shape, look)) {
-            used.push(place)?;
+    for (sample, direction, looks, words) in KEYS {
+        let look = way(looks, direction);
+        if is_used(shapes, look) {
+            used.push((sample, look, words))?;
+        }
+    }
+    for ((steps, look), words) in SIGNS {
+        if is_used(shapes, look) {
+            used.push((Sample::Sign(steps), look, words))?;
         }
     }
     Ok(used)
 }
 
-// Adds a bead of packet 0.
-fn add_zero(
-    out: &mut Vec<Shape>,
-    x: u64,
-    at: u32,
-    round: u64,
-    look: u8,
-    letters: u8,
-) -> Result<(), AllocError>
-    ensures { OnOk result (tellings out.new.items ≡ tellings out.old.items) }
-{
-    draw(out, box_round(x, at, 7, round, look))?;
-    draw(out, Free::Zero(x, y_of(at) + 4, letters))
-}
-
-// A piece of a track, of which one of two parts is kept.
-fn add_piece(
-    out: &mut Vec<Shape>,
-    x: u64,
-    y: u64,
-    high: u64,
-    side: Side,
-    stage: Stage,
-) -> Result<(), AllocError>
-    requires { x < 2 ^ 40 }
-    ensures { OnOk result (tellings out.new.items ≡ tellings out.old.items) }
-{
-    let (half, look) = stripe_of(side, stage);
-    let (left, wide) = (x.saturating_sub(u64::from(half)), 2 * u64::from(half));
-    let turn = Turn {
-        at: 0,
-        side,
-        thing: None,
-        stage: Some(stage),
-    };
-    let about = About {
-        parts: 2,
-        ..NOTHING
-    };
-    let track = Track {
-        turn,
-        kept: 1,
-        about,
-    };
-    draw(out, Free::Box(left, y, wide, high, 0, look))?;
-    add_rest(out, x, y, high, track)
-}
-
-// A sample, from a left edge on. Most are lines.
+// Adds a sample, from a left edge on.
 fn add_sample(
     out: &mut Vec<Shape>,
     left: u16,
     at: u32,
-    style: Style,
-    direction: Direction,
+    sample: Sample,
+    look: &'static str,
 ) -> Result<(), AllocError>
     ensures { OnOk result (tellings out.new.items ≡ tellings out.old.items) }
 {
-    let (left, y, look) = (u64::from(left), y_of(at), look_of(style, direction));
-    let (x, ink) = (left + 18, direction as u8);
-    let craft = Side::Craft;
-    match style {
-        Style::Way => {
-            let (tip, sign) = match direction {
-                Direction::Up => (left + 35, Sign::HeadRight),
-                Direction::Down => (left + 2, Sign::HeadLeft),
-            };
-            draw(out, Free::Line(left + 4, y, left + 32, y, look))?;
-            draw(out, Free::Sign(tip, y, sign, Style::Filled.way(direction)))
+    let (left, y) = (u128::from(left), y_of(at));
+    let x = left + 18;
+    match sample {
+        Sample::Way => draw(out, Shape::Line(left + 4, y, left + 32, y, look)),
+        Sample::Bead(round) => draw(out, bead_box(x, at, 7, round, look)),
+        Sample::Piece(half) => {
+            let (from, wide) = (x.saturating_sub(u128::from(half)), 2 * u128::from(half));
+            draw(out, Shape::Box(from, y - 7, wide, 14, 0, look))
         }
-        Style::Waiting => add_open(out, left + 4, left + 32, at, direction),
-        Style::Cross => draw(out, Free::Sign(x, y, Sign::Cross, look)),
-        Style::Expired => draw(out, Free::Sign(x, y, Sign::Hourglass, look)),
-        Style::Hollow | Style::Dashed => add_zero(out, x, at, 7, look, ink),
-        Style::Kept => add_zero(out, x, at, 7, look, WHITE),
-        Style::Noted => add_zero(out, x, at, 0, look, WHITE),
-        Style::Ring => {
-            draw(out, release_ring(x, at, 7, direction))?;
-            add_zero(out, x, at, 7, Style::Filled.way(direction), WHITE)
-        }
-        Style::Retiring => draw(out, ring(x, at, Style::InkEdge)),
-        Style::Opened | Style::Finished => draw(out, square(x, at, style)),
-        Style::Sender => add_piece(out, x, y - 8, 16, Side::Ground, Stage::Sending),
-        Style::Reception => add_piece(out, x, y - 7, 14, craft, Stage::Kept),
-        Style::JobWaits => add_piece(out, x, y - 5, 14, craft, Stage::Waits),
-        Style::JobHollow => add_piece(out, x, y - 7, 14, craft, Stage::Claimed),
-        Style::JobFilled => add_piece(out, x, y - 7, 14, craft, Stage::Committed),
-        Style::Tick => draw(out, Free::Line(left + 13, y, left + 23, y, look)),
-        Style::Restart => add_double(out, left + 4, left + 32, at),
-        Style::Refused => {
-            draw(out, ring(x, at, style))?;
-            draw(out, cross(x, at))
-        }
-        _ => draw(out, Free::Line(left + 4, y, left + 32, y, look)),
+        Sample::Sign(steps) => draw(out, sign_at(x, at, (steps, look))),
     }
 }
 
 /// Adds the legend: these keys, three in a row, each a sample with its words behind it.
-pub(crate) fn add_legend(out: &mut Vec<Shape>, keys: &[usize]) -> Result<(), AllocError>
-    requires { length keys.now ≤ 25 }
+pub(crate) fn add_legend(out: &mut Vec<Shape>, keys: &[Key]) -> Result<(), AllocError>
     ensures { OnOk result (tellings out.new.items ≡ tellings out.old.items) }
 {
-    for (place, key) in keys.iter().enumerate() {
-        if let Some((style, direction, words)) = KEYS.get(*key).copied() {
-            let (left, at) = (24 + 250 * ((place % 3) as u16), 2 * ((place / 3) as u32));
-            add_sample(out, left, at, style, direction)?;
-            let words = Octets::from_vec(Vec::from_slice(*out.allocator(), words.as_bytes())?);
-            let (x, y) = (u64::from(left) + 40, y_of(at) + 4);
-            draw(out, Free::Text(x, y, Letters::Key as u8, 60, words))?;
-        }
+    let mut place: u16 = 0;
+    for (sample, look, words) in keys {
+        let (left, at) = (24 + 250 * (place % 3), 2 * u32::from(place / 3));
+        add_sample(out, left, at, *sample, look)?;
+        let (x, y) = (u128::from(left) + 40, y_of(at) + 4);
+        add_letters(out, x, y, "key", 60, words.as_bytes())?;
+        place = place.saturating_add(1);
     }
     Ok(())
 }

@@ -4,7 +4,6 @@
 //! The first call is `chart`, with a title and a journal.
 #![tactic(auto)]
 
-mod arriving;
 mod drawing;
 mod flight;
 mod frame;
@@ -15,13 +14,13 @@ mod marks;
 mod packets;
 mod picture;
 mod row;
+mod scene;
 mod shape;
 mod style;
 mod svg;
-mod task;
 mod title;
 mod tracks;
 mod words;
 
-pub use marks::{Choice, Kind, Known, Opened, Refusal};
-pub use svg::{chart, write_escaped};
+pub use marks::{About, Choice, Kind, Known, Refusal};
+pub use svg::chart;

@@ -2,7 +2,9 @@
 //!
 //! Heights are counted in steps of 11 pixels from the top of the whole run; a row has two.
 
-use crate::style::{Style, Weight};
+ghost use Rattle.std.specs.Prelude.{◌≡◌, slice_get, unwrap_or};
+
+use crate::style::{Sign, Weight};
 use lpt_events::{Lane, Outcome, Side, StepFault};
 use lpt_packet::{Direction, Octets};
 
@@ -24,13 +26,27 @@ pub struct Kind {
     pub subtype: u8,
 }
 
-/// That a message was opened.
-#[derive(Clone, Copy)]
-pub struct Opened {
-    /// The place in the journal of the entry that opened it.
-    pub place: u64,
-    /// How many parts it has.
+impl Kind {
+    /// What a packet says that it is; 0 if it is too short for that.
+    pub fn of(packet: &[u8]) -> Kind
+        ensures service { result.service ≡ unwrap_or (slice_get packet.now 7) 0 }
+        ensures subtype { result.subtype ≡ unwrap_or (slice_get packet.now 8) 0 }
+    {
+        Kind {
+            service: packet.get(7).copied().unwrap_or(0),
+            subtype: packet.get(8).copied().unwrap_or(0),
+        }
+    }
+}
+
+/// What is known of an entry of a journal: how many parts the message has that it opened, and which
+/// areas the request names that it released, in words that go on with others.
+#[derive(Drop)]
+pub struct About {
+    /// How many parts; 0 if it opened none.
     pub parts: u16,
+    /// The areas; empty if it released none.
+    pub areas: String,
 }
 
 /// What is known of a run beside its journal.
@@ -40,8 +56,8 @@ pub struct Known {
     pub source: u16,
     /// What each packet says that it is, at the place of its number.
     pub kinds: Vec<Kind>,
-    /// The messages that were opened.
-    pub opened: Vec<Opened>,
+    /// What is known of each entry.
+    pub about: Vec<About>,
 }
 
 /// A line of a script that asked for an event which was refused.
@@ -49,33 +65,12 @@ pub struct Known {
 pub struct Refusal {
     /// How many entries the journal had then.
     pub place: u64,
-    /// The node at whose side it is shown: the one that was asked.
-    pub side: Side,
     /// The line's number.
     pub line: u64,
     /// Why the event was refused.
     pub fault: StepFault,
     /// The line, or its front.
     pub words: Octets,
-}
-
-/// What a request asks of a memory, as far as it is shown: its type, the memory, how many areas it
-/// names, and of the first area the address and how many octets it has.
-#[derive(Clone, Copy)]
-pub(crate) struct Task {
-    pub(crate) service: u8,
-    pub(crate) subtype: u8,
-    pub(crate) memory: u8,
-    pub(crate) areas: u8,
-    pub(crate) address: u32,
-    pub(crate) octets: u16,
-}
-
-/// Of how many parts the message of a packet is, and what that asks for.
-#[derive(Clone, Copy)]
-pub(crate) struct About {
-    pub(crate) parts: u16,
-    pub(crate) task: Option<Task>,
 }
 
 /// A packet that was put on the link: the height of its row, whether noise left it, and whether a
@@ -116,13 +111,16 @@ pub(crate) struct Flight {
     pub(crate) outcome: Outcome,
 }
 
-/// What a row tells beside its words: nothing; that a lane took a packet; the packet of a number
-/// that was put, and whether noise left it; and ticks of a node.
+/// What a row tells beside its words: nothing; the packet of a number that was put, and whether
+/// noise left it; that a lane took one, that one was lost, what became of the one in a lane's hand;
+/// and ticks of a node.
 #[derive(Clone, Copy)]
 pub(crate) enum Mark {
     Nothing,
-    Took(Lane),
     Put(Direction, u64, bool),
+    Took(Lane, u64),
+    Lost(u64),
+    Landed(Lane, Outcome),
     Ticks(Side),
 }
 
@@ -137,27 +135,11 @@ pub(crate) struct Head {
     pub(crate) mark: Mark,
 }
 
-/// What is drawn on the line of life of a row whose mark isn't drawn there: nothing; a square; that
-/// a clock goes on; an expired reception; a reading of a job that isn't there any more; a job that
-/// failed; a transaction that is free at both ends; a restart; and a refused line.
-#[derive(Clone, Copy)]
-pub(crate) enum Sketch {
-    Nothing,
-    Square(Style),
-    Tick,
-    Expired,
-    Stale,
-    Failed,
-    Retired,
-    Restarted,
-    Refused,
-}
-
-/// The words of a row, how they are drawn, and what is drawn on its line of life.
+/// The words of a row, how they are drawn, and a sign on its line of life.
 #[derive(Drop)]
 pub(crate) struct Saying {
     pub(crate) weight: Weight,
-    pub(crate) sketch: Sketch,
+    pub(crate) sign: Option<Sign>,
     pub(crate) words: Octets,
 }
 

@@ -1,44 +1,50 @@
 //! What is drawn of a run, and what is remembered for what follows.
 
-ghost use Rattle.std.specs.Prelude.{◌≡◌, false, OnOk};
-ghost use Rattle.std.specs.Option.{option_map_or};
-ghost use Rattle.lpt_events.specs.Lanes.{same_lane};
+ghost use Rattle.std.specs.Prelude.{◌≡◌, OnOk};
 ghost use Rattle.lpt_events.specs.Sides.{same_side};
-ghost use Rattle.lpt_chart.specs.Stories.{blank, closed_story, ends, landed_by, row_more, said_row, story_of, takes, tick_row, ticks, with_turn};
+ghost use Rattle.lpt_chart.specs.Stories.{applied_then, blank, drawn_row, event_row, goes_on, jobs_then, lands_on, plain_head, row_more, story_of, with_step};
 
-use crate::marks::{
-    About, Flight, Hands, Head, Held, Known, Mark, Row, Saying, Sent, Sketch, Task,
-};
-use crate::packets::NOTHING;
-use crate::style::Weight;
+use crate::marks::{Flight, Hands, Head, Held, Known, Mark, Row, Saying, Sent};
+use crate::scene::Step;
 use crate::tracks::{Stage, Thing, Track, Turn, is_about};
-use lpt_events::{Lane, Side};
+use lpt_events::Side;
 use lpt_packet::Octets;
 use std::alloc::{AllocError, Global};
 
-/// What was drawn of a run, and what is remembered for what follows: of packets what each is and
-/// what its message asks for, of jobs what they ask for, and how many of them were executed; and
-/// how many ticks the last row tells.
+/// What was drawn of a run, and what is remembered for what follows: of packets what each is and of
+/// how many parts its message is, the tracks that are open, and how many jobs were released and
+/// executed.
 #[derive(Drop)]
 pub(crate) struct Picture {
     pub(crate) known: Known,
-    pub(crate) place: u64,
-    pub(crate) here: u32,
+    pub(crate) last: Head,
     pub(crate) next: u32,
-    pub(crate) run: u64,
-    pub(crate) last: Option<Row>,
     pub(crate) rows: Vec<Row>,
     pub(crate) sent: Vec<Sent>,
-    pub(crate) about: Vec<About>,
+    pub(crate) parts: Vec<u16>,
     pub(crate) words: Vec<Octets>,
     pub(crate) hands: Hands,
-    pub(crate) turns: Vec<Track>,
-    pub(crate) live: Vec<Track>,
-    pub(crate) boot: u64,
-    pub(crate) tasks: Vec<Option<Task>>,
-    pub(crate) applied: u64,
     pub(crate) flights: Vec<Flight>,
     pub(crate) losses: Vec<Held>,
+    pub(crate) turns: Vec<Track>,
+    pub(crate) live: Vec<Track>,
+    pub(crate) ticks: u64,
+    pub(crate) tasks: Vec<u64>,
+    pub(crate) jobs: u64,
+    pub(crate) applied: u64,
+}
+
+/// A row of this place that shows no place and has no mark, at ground.
+pub(crate) fn plain_head(place: u64, at: u32) -> Head
+    ensures { result ≡ plain_head place at }
+{
+    Head {
+        place,
+        at,
+        numbered: false,
+        side: Side::Ground,
+        mark: Mark::Nothing,
+    }
 }
 
 impl Picture {
@@ -48,14 +54,11 @@ impl Picture {
     {
         Picture {
             known,
-            place: 0,
-            here: 0,
+            last: plain_head(0, 0),
             next: 0,
-            run: 0,
-            last: None,
             rows: Vec::new(alloc),
             sent: Vec::new(alloc),
-            about: Vec::new(alloc),
+            parts: Vec::new(alloc),
             words: Vec::new(alloc),
             hands: Hands {
                 s1: None,
@@ -63,13 +66,14 @@ impl Picture {
                 g1: None,
                 g2: None,
             },
-            turns: Vec::new(alloc),
-            live: Vec::new(alloc),
-            boot: 0,
-            tasks: Vec::new(alloc),
-            applied: 0,
             flights: Vec::new(alloc),
             losses: Vec::new(alloc),
+            turns: Vec::new(alloc),
+            live: Vec::new(alloc),
+            ticks: 0,
+            tasks: Vec::new(alloc),
+            jobs: 0,
+            applied: 0,
         }
     }
 
@@ -78,228 +82,223 @@ impl Picture {
         *self.rows.allocator()
     }
 
-    // The last row is one of the rows.
-    #[tactic(auto, using(crate::proofs::StoryLemmas::heads_more))]
-    pub(crate) fn settle(&mut self) -> Result<(), AllocError>
-        ensures { OnOk result (story_of self.new ≡ closed_story (story_of self.old)) }
-    {
-        if let Some(row) = self.last.take() {
-            self.rows.push(row)?;
-        }
-        Ok(())
-    }
-
     // Adds a row. Its ground is dark if that of the last isn't, unless it goes on with the last. A
     // row that neither goes on with the last nor shows its place has no line to its words.
-    #[tactic(auto, unfolding(crate::specs::Stories::row_more))]
-    pub(crate) fn row(
-        &mut self,
-        at: u32,
-        on: bool,
-        numbered: bool,
-        side: Side,
-        mark: Mark,
-        says: Saying,
-    ) -> Result<(), AllocError>
-        ensures { OnOk result
-            (story_of self.new ≡ row_more (story_of self.old) at numbered side mark) }
+    #[tactic(auto, using(crate::proofs::StoryLemmas::heads_more), unfolding(crate::specs::Stories::row_more))]
+    fn row(&mut self, on: bool, head: Head, says: Saying) -> Result<(), AllocError>
+        ensures { OnOk result (story_of self.new ≡ row_more (story_of self.old) head) }
     {
-        let dark = match &self.last {
+        let dark = match self.rows.last() {
             Some(row) => row.dark == on,
             None => true,
         };
-        self.settle()?;
-        self.here = at;
-        self.next = at.saturating_add(2);
-        let head = Head {
-            place: self.place,
-            at,
-            numbered,
-            side,
-            mark,
-        };
-        self.last = Some(Row {
+        let lined = on || head.numbered;
+        self.rows.push(Row {
             head,
             says,
             dark,
-            lined: on || numbered,
-        });
+            lined,
+        })?;
+        self.last = head;
+        self.next = head.at.saturating_add(2);
         Ok(())
     }
 
-    // An event's row.
+    // Adds a row, with what becomes of packets by its mark, of a message of so many parts.
+    pub(crate) fn show(
+        &mut self,
+        on: bool,
+        head: Head,
+        says: Saying,
+        parts: u16,
+    ) -> Result<(), AllocError>
+        ensures { OnOk result (story_of self.new ≡ drawn_row (story_of self.old) head) }
+    {
+        let words = says.words.copy()?;
+        self.row(on, head, says)?;
+        self.act(head.mark, words, parts)
+    }
+
+    // Has the last row say other words, with or without a line to them.
+    fn retell(&mut self, words: Octets, lined: bool) -> Result<(), AllocError>
+        ensures { OnOk result (story_of self.new ≡ story_of self.old) }
+    {
+        if let Some(row) = self.rows.pop() {
+            let says = Saying { words, ..row.says };
+            self.rows.push(Row { says, lined, ..row })?;
+        }
+        Ok(())
+    }
+
+    // An event's row. Ticks of one node in a row are one row, and a delivery stands right below the
+    // row in which its lane took the packet, which then says nothing.
+    #[tactic(auto, unfolding(crate::specs::Stories::event_row))]
     pub(crate) fn say(
         &mut self,
-        mark: Mark,
+        place: u64,
         side: Side,
-        weight: Weight,
-        sketch: Sketch,
-        words: String,
+        mark: Mark,
+        says: Saying,
+        parts: u16,
     ) -> Result<(), AllocError>
-        ensures { OnOk result (story_of self.new ≡ said_row (story_of self.old) side mark) }
+        ensures { OnOk result (story_of self.new ≡ event_row (story_of self.old) place side mark) }
     {
-        let says = saying(weight, sketch, words);
-        self.row(self.next, false, true, side, mark, says)
-    }
-
-    // Whether the last row says that this lane took a packet.
-    fn takes_last(&self, lane: Lane) -> bool
-        ensures { result ≡ option_map_or (λ r. takes lane r.mark) (story_of self.now).last false }
-    {
-        match &self.last {
-            Some(row) => match row.head.mark {
-                Mark::Took(other) => is_lane(lane, other),
-                _ => false,
-            },
-            None => false,
+        let last = self.last.mark;
+        if goes_on(mark, last) {
+            return self.retell(says.words, true);
         }
-    }
-
-    // Takes its words and the line to them from the last row.
-    fn hush(&mut self, none: Octets)
-        ensures { story_of self.new ≡ story_of self.old }
-    {
-        if let Some(row) = self.last.take() {
-            self.last = Some(Row {
-                lined: false,
-                says: Saying {
-                    words: none,
-                    ..row.says
-                },
-                ..row
-            });
-        }
-    }
-
-    // A delivery's row: right below that in which its lane took the packet, if that is the last.
-    #[tactic(auto, unfolding(crate::specs::Stories::landed_by))]
-    pub(crate) fn land(
-        &mut self,
-        lane: Lane,
-        weight: Weight,
-        words: String,
-    ) -> Result<(), AllocError>
-        ensures { OnOk result (story_of self.new ≡ landed_by (story_of self.old) lane) }
-    {
-        let (side, says) = (lane.receiver(), saying(weight, Sketch::Nothing, words));
-        if !self.takes_last(lane) {
-            return self.row(self.next, false, true, side, Mark::Nothing, says);
-        }
-        self.hush(Octets::from_vec(Vec::new(self.alloc())));
-        let at = self.next.saturating_sub(1);
-        self.row(at, true, true, side, Mark::Nothing, says)
-    }
-
-    // Whether the last row tells of ticks of this node.
-    fn ticks_last(&self, side: Side) -> bool
-        ensures { result ≡ option_map_or (λ r. ticks side r.mark) (story_of self.now).last false }
-    {
-        match &self.last {
-            Some(row) => match row.head.mark {
-                Mark::Ticks(other) => is_side(side, other),
-                _ => false,
-            },
-            None => false,
-        }
-    }
-
-    // Has the last row say other words.
-    fn retell(&mut self, words: Octets)
-        ensures { story_of self.new ≡ story_of self.old }
-    {
-        if let Some(row) = self.last.take() {
-            self.last = Some(Row {
-                says: Saying { words, ..row.says },
-                ..row
-            });
-        }
-    }
-
-    // A tick. Ticks of one node in a row are one row.
-    #[tactic(auto, unfolding(crate::specs::Stories::tick_row))]
-    pub(crate) fn tick(&mut self, side: Side, clock: u32) -> Result<(), AllocError>
-        ensures { OnOk result (story_of self.new ≡ tick_row (story_of self.old) side) }
-    {
-        if !self.ticks_last(side) {
-            self.run = 1;
-            let words = format!(in self.alloc(); "clock {clock}")?;
-            return self.say(Mark::Ticks(side), side, Weight::Quiet, Sketch::Tick, words);
-        }
-        self.run = self.run.saturating_add(1);
-        let run = self.run;
-        let words = format!(in self.alloc(); "clock {clock} ({run} ticks)")?;
-        self.retell(Octets::from_vec(words.into_bytes()));
-        Ok(())
-    }
-
-    // How many parts are kept of a thing at a node, and what is known of its message, if it is
-    // open there.
-    pub(crate) fn known_of(&self, side: Side, thing: Thing) -> (u16, About) {
-        let turn = Turn {
-            at: self.here,
-            side,
-            thing: Some(thing),
-            stage: None,
+        let lands = lands_on(mark, last);
+        let at = if lands {
+            self.retell(Octets::from_vec(Vec::new(self.alloc())), false)?;
+            self.next.saturating_sub(1)
+        } else {
+            self.next
         };
-        match self.live.iter().find(|track| is_about(turn, track.turn)) {
-            Some(track) => (track.kept, track.about),
-            None => (0, NOTHING),
+        let head = Head {
+            numbered: true,
+            side,
+            mark,
+            ..plain_head(place, at)
+        };
+        self.show(lands, head, says, parts)
+    }
+
+    // How many ticks a row of this mark tells, if it tells some.
+    pub(crate) fn ticks_then(&self, mark: Mark) -> u64 {
+        if goes_on(mark, self.last.mark) {
+            self.ticks.saturating_add(1)
+        } else {
+            1
         }
     }
 
-    // A thing at a node, or all there, comes to a stage, or to its end.
-    #[tactic(auto, using(crate::proofs::StoryLemmas::turns_more))]
+    // How many parts are kept of a thing at a node, and of how many, if it is open there.
+    pub(crate) fn share_at(&self, side: Side, thing: Thing) -> (u16, u16) {
+        match self
+            .live
+            .iter()
+            .find(|track| is_about(side, Some(thing), track.turn))
+        {
+            Some(track) => (track.kept, track.parts),
+            None => (0, 0),
+        }
+    }
+
+    // The column of a thing at a node, or the first there that is free; the last stands for all
+    // beyond.
+    fn column_of(&self, side: Side, thing: Option<Thing>) -> u64 {
+        if let Some(track) = self
+            .live
+            .iter()
+            .find(|track| is_about(side, thing, track.turn))
+        {
+            return track.column;
+        }
+        for column in 0..63 {
+            let stands = |track: &Track| is_side(side, track.turn.side) && track.column == column;
+            if !self.live.iter().any(stands) {
+                return column;
+            }
+        }
+        63
+    }
+
+    // A thing at a node, or all there, comes to a stage or to its end, if something does. Jobs that
+    // are released and executed are counted by their numbers.
+    #[tactic(auto, using(crate::proofs::StoryLemmas::turns_more), unfolding(crate::specs::Stories::with_step))]
     pub(crate) fn turn(
         &mut self,
         side: Side,
-        thing: Option<Thing>,
-        stage: Option<Stage>,
+        step: Option<Step>,
         kept: u16,
-        about: About,
+        parts: u16,
     ) -> Result<(), AllocError>
-        ensures { OnOk result (story_of self.new ≡ with_turn (story_of self.old) side thing stage) }
+        ensures { OnOk result (story_of self.new ≡ with_step (story_of self.old) side step) }
     {
-        let at = self.here;
+        let Some(Step { thing, stage }) = step else {
+            return Ok(());
+        };
+        let (at, column) = (self.last.at, self.column_of(side, thing));
         let turn = Turn {
             at,
             side,
             thing,
             stage,
         };
-        let track = Track { turn, kept, about };
-        self.live.retain(|other| !is_about(turn, other.turn));
+        let track = Track {
+            turn,
+            column,
+            kept,
+            parts,
+        };
+        self.live.retain(|other| !is_about(side, thing, other.turn));
         if stage.is_some() {
             self.live.push(track)?;
         }
         self.turns.push(track)?;
+        self.keep_task(side, thing, stage)?;
+        self.jobs = jobs_then(side, thing, stage, self.jobs);
+        self.applied = applied_then(side, thing, stage, self.applied);
         Ok(())
     }
 
-    // A thing at a node comes to its end.
-    pub(crate) fn end(&mut self, side: Side, thing: Thing) -> Result<(), AllocError>
-        ensures { OnOk result (story_of self.new ≡ ends (story_of self.old) side thing) }
+    // Keeps the place of the last row, if it released a job; none outlasts a restart.
+    fn keep_task(
+        &mut self,
+        side: Side,
+        thing: Option<Thing>,
+        stage: Option<Stage>,
+    ) -> Result<(), AllocError>
+        ensures { OnOk result (story_of self.new ≡ story_of self.old) }
     {
-        self.turn(side, Some(thing), None, 0, NOTHING)
+        match (side, thing, stage) {
+            (Side::Craft, None, _) => self.tasks.clear(),
+            (_, _, Some(Stage::Waits)) => self.tasks.push(self.last.place)?,
+            _ => {}
+        }
+        Ok(())
     }
 }
 
-// What a row says in these words.
-fn saying(weight: Weight, sketch: Sketch, words: String) -> Saying {
-    Saying {
-        weight,
-        sketch,
-        words: Octets::from_vec(words.into_bytes()),
-    }
-}
-
-// Whether two lanes are the same.
-fn is_lane(one: Lane, other: Lane) -> bool
-    ensures { result ≡ same_lane one other }
+// How many jobs were released since the boot, after a step.
+fn jobs_then(side: Side, thing: Option<Thing>, stage: Option<Stage>, jobs: u64) -> u64
+    ensures { result ≡ jobs_then side thing stage jobs }
 {
-    match (one, other) {
-        (Lane::S1, Lane::S1) | (Lane::S2, Lane::S2) => true,
-        (Lane::G1, Lane::G1) | (Lane::G2, Lane::G2) => true,
-        (Lane::S1 | Lane::S2 | Lane::G1 | Lane::G2, _) => false,
+    match (side, thing, stage) {
+        (Side::Craft, None, _) => 0,
+        (_, Some(Thing::Job(job)), Some(Stage::Waits)) => job.saturating_add(1),
+        _ => jobs,
+    }
+}
+
+// How many were executed.
+fn applied_then(side: Side, thing: Option<Thing>, stage: Option<Stage>, applied: u64) -> u64
+    ensures { result ≡ applied_then side thing stage applied }
+{
+    match (side, thing, stage) {
+        (Side::Craft, None, _) => 0,
+        (_, Some(Thing::Job(job)), None) => job.saturating_add(1),
+        _ => applied,
+    }
+}
+
+// Whether a row of this mark goes on with the last: ticks of one node do.
+fn goes_on(mark: Mark, last: Mark) -> bool
+    ensures { result ≡ goes_on mark last }
+{
+    match (mark, last) {
+        (Mark::Ticks(one), Mark::Ticks(other)) => is_side(one, other),
+        _ => false,
+    }
+}
+
+// Whether it is that of a delivery below the row in which its lane took the packet.
+fn lands_on(mark: Mark, last: Mark) -> bool
+    ensures { result ≡ lands_on mark last }
+{
+    match (mark, last) {
+        (Mark::Landed(one, _), Mark::Took(other, _)) => one == other,
+        _ => false,
     }
 }
 
@@ -307,8 +306,5 @@ fn is_lane(one: Lane, other: Lane) -> bool
 pub(crate) fn is_side(one: Side, other: Side) -> bool
     ensures { result ≡ same_side one other }
 {
-    match (one, other) {
-        (Side::Ground, Side::Ground) | (Side::Craft, Side::Craft) => true,
-        (Side::Ground | Side::Craft, _) => false,
-    }
+    one == other
 }

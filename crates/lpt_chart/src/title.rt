@@ -14,7 +14,7 @@ pub(crate) fn title_wide(wide: u32) -> usize {
     (u64::from(wide.saturating_sub(48)) * 2 / 21) as usize
 }
 
-// Where a line ends: at a space among its last 14 letters, or where there is no more room.
+// Where the first line ends: at a space among its last 14 letters, or where there is no more room.
 fn line_end(text: &[u8], most: usize) -> usize
     ensures { result ≤ length text.now }
 {
@@ -28,44 +28,11 @@ fn line_end(text: &[u8], most: usize) -> usize
     }
 }
 
-// The first line of a text.
-fn title_front(text: &[u8], most: usize) -> &[u8] {
-    text.split_at(line_end(text, most)).0
-}
-
-// A text without the space at its front, if there is one.
-fn behind_space(text: &[u8]) -> &[u8] {
-    match text {
-        [b' ', more @ ..] => more,
-        _ => text,
-    }
-}
-
-// What follows the first line, and the space that parts them.
-fn title_rest(text: &[u8], most: usize) -> &[u8] {
-    behind_space(text.split_at(line_end(text, most)).1)
-}
-
-/// The line of a title with this index: two lines, and what follows them.
-pub(crate) fn title_line(text: &[u8], line: u8, most: usize) -> &[u8] {
-    if line == 0 {
-        title_front(text, most)
-    } else if line == 1 {
-        title_front(title_rest(text, most), most)
-    } else {
-        title_rest(title_rest(text, most), most)
-    }
-}
-
-/// The room for the lines behind the first.
-pub(crate) fn title_room(text: &[u8], most: usize) -> u32
-    ensures { result ≤ 48 }
-{
-    if text.len() <= most {
-        0
-    } else if title_rest(text, most).len() <= most {
-        24
-    } else {
-        48
+/// The first line of a title, and what follows it.
+pub(crate) fn title_lines(text: &[u8], most: usize) -> (&[u8], &[u8]) {
+    let (first, rest) = text.split_at(line_end(text, most));
+    match rest {
+        [b' ', more @ ..] => (first, more),
+        _ => (first, rest),
     }
 }

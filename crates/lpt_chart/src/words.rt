@@ -3,13 +3,16 @@
 ghost use Rattle.std.specs.Prelude.{◌≡◌, IfOk};
 ghost use Rattle.lpt_chart.specs.Words.{direction_from, stage_words, turn_words};
 
-use crate::marks::{Refusal, Task};
-use crate::svg::plural;
-use crate::tracks::{Stage, Thing, Track};
-use lpt_events::{Applied, Lane, Side, Worker, name_word};
+use crate::marks::{Kind, Refusal};
+use crate::picture::Picture;
+use crate::style::{
+    EXPIRED, FAILED, FINISHED, OPENED, RESTARTED, RETIRED, STALE, Sign, TICK, Weight,
+};
+use crate::tracks::{Stage, Thing};
+use lpt_events::{Answer, Applied, Event, Lane, Outcome, Reply, Side, name_word};
 use lpt_packet::{Direction, Octets};
-use lpt_part::Reason;
 use lpt_pus::FailureCode;
+use lpt_script_text::write_accepted;
 use std::alloc::{AllocError, Global};
 
 /// A node's name.
@@ -22,138 +25,42 @@ pub(crate) fn lane_word(lane: Lane) -> &'static str {
     ["s1", "s2", "g1", "g2"][lane as usize]
 }
 
-/// Why a reception was broken off.
-pub(crate) fn reason_word(reason: Reason) -> &'static str {
-    ["expired", "discontinuity", "conflict"][reason as usize]
-}
-
-// What a request of a type is called.
-fn request_word(service: u8, subtype: u8) -> &'static str {
-    match (service, subtype) {
-        (6, 2) => " load",
-        (6, 5) => " dump",
-        (6, 9) => " check",
-        _ => "",
-    }
-}
-
-// What a report of a type is called.
-fn report_word(service: u8, subtype: u8) -> &'static str {
-    match (service, subtype) {
-        (1, 1) => " accepted",
-        (1, 2) => " not accepted",
-        (1, 3) => " started",
-        (1, 4) => " not started",
-        (1, 7) => " completed",
-        (6, 6) => " dump",
-        (6, 10) => " check",
-        (13, 16) => " broken off",
-        _ => "",
-    }
-}
-
-// Why a request failed.
-fn code_word(code: FailureCode) -> &'static str {
+// Why a request failed, behind other words.
+fn code_words(code: FailureCode) -> &'static str {
     const WORDS: [&str; 8] = [
-        "1 no such service",
-        "2 malformed",
-        "3 no such memory",
-        "4 out of range",
-        "5 wrong checksum",
-        "6 reply too long",
-        "7 no free identifier",
-        "8 too many open",
+        ", no such service",
+        ", malformed",
+        ", no such memory",
+        ", out of range",
+        ", wrong checksum",
+        ", reply too long",
+        ", no free identifier",
+        ", too many open",
     ];
     WORDS[code as usize]
 }
 
-/// Of how many parts, if that is known.
-pub(crate) fn of_words(alloc: Global, parts: u16) -> Result<String, AllocError> {
-    if parts == 0 {
-        return Ok(String::new(alloc));
-    }
-    format!(in alloc; " of {parts}")
-}
-
-/// A request of a type.
-pub(crate) fn request_words(alloc: Global, service: u8, subtype: u8) -> Result<String, AllocError> {
-    let word = request_word(service, subtype);
-    format!(in alloc; "request {service},{subtype}{word}")
-}
-
-/// A report of a type.
-pub(crate) fn report_words(alloc: Global, service: u8, subtype: u8) -> Result<String, AllocError> {
-    let word = report_word(service, subtype);
-    format!(in alloc; "report {service},{subtype}{word}")
-}
-
-/// What a worker does with a job.
-pub(crate) fn job_words(
-    alloc: Global,
-    worker: Worker,
-    does: &str,
-    boot: u64,
-    job: u64,
-) -> Result<String, AllocError> {
-    let worker = ["w1", "w2"][worker as usize];
-    format!(in alloc; "{worker} {does} job {boot}.{job}")
-}
-
-// What an executed request has changed: a load a memory, from the address of its first area on.
-fn change_words(alloc: Global, task: Task) -> Result<String, AllocError> {
-    if !(task.service == 6 && task.subtype == 2) {
-        return Ok(String::new(alloc));
-    }
-    let (memory, address, octets) = (task.memory, task.address, task.octets);
-    let (s, more) = (plural(u64::from(octets)), task.areas.saturating_sub(1));
-    let t = plural(u64::from(more));
-    if more == 0 {
-        format!(in alloc; ", memory {memory} at {address}: {octets} octet{s}")
-    } else {
-        format!(in alloc; ", memory {memory} at {address}: {octets} octet{s} and {more} area{t}")
+// What a request or a report of a type is called.
+fn kind_word(service: u8, subtype: u8) -> &'static str {
+    match (service, subtype) {
+        (1, 1) => "accepted",
+        (1, 2) => "not accepted",
+        (1, 3) => "started",
+        (1, 4) => "not started",
+        (1, 7) => "completed",
+        (6, 2) => "load",
+        (6, 5 | 6) => "dump",
+        (6, 9 | 10) => "check",
+        (13, 16) => "broken off",
+        _ => "",
     }
 }
 
-// What the execution of a job came to.
-fn ended_words(
-    alloc: Global,
-    source: u16,
-    task: Option<Task>,
-    applied: Applied,
-) -> Result<String, AllocError> {
-    match (applied, task) {
-        (Applied::Done(None), Some(task)) => {
-            let change = change_words(alloc, task)?;
-            format!(in alloc; ": done{change}")
-        }
-        (Applied::Done(None), None) => String::from_str(alloc, ": done"),
-        (Applied::Done(Some(name)), _) => {
-            let name = name_word(source, name);
-            format!(in alloc; ": done, opens down {name}")
-        }
-        (Applied::Silent, _) => String::from_str(alloc, ": no request, nothing done"),
-        (Applied::Code(code), _) => {
-            let word = code_word(code);
-            format!(in alloc; ": refused, {word}")
-        }
-    }
-}
-
-/// A job, what it is, and what its execution came to.
-pub(crate) fn applied_words(
-    alloc: Global,
-    source: u16,
-    boot: u64,
-    job: u64,
-    task: Option<Task>,
-    applied: Applied,
-) -> Result<String, AllocError> {
-    let end = ended_words(alloc, source, task, applied)?;
-    let word = match task {
-        Some(task) => request_word(task.service, task.subtype),
-        None => "",
-    };
-    format!(in alloc; "job {boot}.{job}{word}{end}")
+/// A request or a report of a type.
+pub(crate) fn kind_words(alloc: Global, what: &str, kind: Kind) -> Result<String, AllocError> {
+    let Kind { service, subtype } = kind;
+    let word = kind_word(service, subtype);
+    format!(in alloc; "{what}{service},{subtype} {word}")
 }
 
 /// A refused line: its fault, its number, and the line.
@@ -164,19 +71,143 @@ pub(crate) fn refusal_words(alloc: Global, refusal: &Refusal) -> Result<Octets, 
     Ok(Octets::from_vec(words))
 }
 
-/// That rows are left out, above, below, or both.
+/// How an event's row is drawn: what is released or broken off is bold, what changes nothing grey.
+pub(crate) fn look_of(event: &Event, answer: Answer) -> (Weight, Option<Sign>) {
+    match (event, answer) {
+        (Event::Tick(_), _) => (Weight::Quiet, Some(TICK)),
+        (Event::Open(_, _, _), _) => (Weight::Plain, Some(OPENED)),
+        (Event::Finish(_, _), _) => (Weight::Plain, Some(FINISHED)),
+        (Event::Retire(_, _), _) => (Weight::Plain, Some(RETIRED)),
+        (Event::Expire(_), _) => (Weight::Strong, Some(EXPIRED)),
+        (Event::Restart(_), _) => (Weight::Strong, Some(RESTARTED)),
+        (_, Answer::Stale(_, _)) => (Weight::Plain, Some(STALE)),
+        (_, Answer::Applied(Applied::Done(_))) => (Weight::Strong, Some(FINISHED)),
+        (_, Answer::Applied(Applied::Silent)) => (Weight::Strong, Some(OPENED)),
+        (_, Answer::Applied(Applied::Code(_))) => (Weight::Strong, Some(FAILED)),
+        (_, Answer::Delivered(outcome)) => (outcome_weight(outcome), None),
+        (_, Answer::Put(_) | Answer::Took(_)) => (Weight::Quiet, None),
+        _ => (Weight::Plain, None),
+    }
+}
+
+// How a delivery is drawn.
+fn outcome_weight(outcome: Outcome) -> Weight {
+    match outcome {
+        Outcome::Released(_, _) | Outcome::PlainReleased(_) | Outcome::Broken(_, _) => {
+            Weight::Strong
+        }
+        Outcome::Again(_, _) | Outcome::Ignored(_) => Weight::Quiet,
+        _ => Weight::Plain,
+    }
+}
+
+// So many, of how many if that is known.
+fn share_words(alloc: Global, count: u16, all: u16) -> Result<String, AllocError> {
+    if all == 0 {
+        format!(in alloc; "{count}")
+    } else {
+        format!(in alloc; "{count} of {all}")
+    }
+}
+
+impl Picture {
+    // What an event's row says: the line that a script prints of its event, and a note
+    // behind it. If a packet is put, it is the note alone, as its bead has the number.
+    pub(crate) fn words_of(
+        &self,
+        event: &Event,
+        reply: &Reply,
+        share: (u16, u16),
+    ) -> Result<String, AllocError> {
+        let (alloc, mut line) = (self.alloc(), String::new(self.alloc()));
+        let note = self.note_of(event, reply.answer, share)?;
+        if let Answer::Put(_) = reply.answer {
+            return Ok(note);
+        }
+        write_accepted(&mut line, self.known.source, event, reply)?;
+        let _ = line.pop();
+        if note.is_empty() {
+            return Ok(line);
+        }
+        format!(in alloc; "{line}: {note}")
+    }
+
+    // What that line doesn't say: what a packet is; of how many parts how many are kept; which job
+    // or worker it is; how many ticks there were; and why.
+    fn note_of(
+        &self,
+        event: &Event,
+        answer: Answer,
+        share: (u16, u16),
+    ) -> Result<String, AllocError> {
+        let (alloc, jobs) = (self.alloc(), self.jobs);
+        match (event, answer) {
+            (Event::Open(_, _, message), _) => {
+                let kind = Kind::of(message.as_slice());
+                kind_words(alloc, "", kind)
+            }
+            (Event::Send(direction, name, part), _) => {
+                let (way, name) = (direction.word(), name_word(self.known.source, *name));
+                let part = share_words(alloc, *part, share.1)?;
+                format!(in alloc; "{way} {name} part {part}")
+            }
+            (Event::Plain(_, _, service, subtype, _), _) => {
+                let (service, subtype) = (*service, *subtype);
+                kind_words(alloc, "request ", Kind { service, subtype })
+            }
+            (Event::Damage(_, octets), _) => {
+                let len = octets.as_slice().len();
+                format!(in alloc; "noise, length {len}")
+            }
+            (Event::Tick(_), _) if self.ticks > 1 => {
+                let ticks = self.ticks;
+                format!(in alloc; "{ticks} ticks")
+            }
+            (Event::Take(lane, _), _) => String::from_str(alloc, lane_word(*lane)),
+            (Event::Claim(worker) | Event::Commit(worker), _) => {
+                String::from_str(alloc, ["w1", "w2"][*worker as usize])
+            }
+            (Event::Deliver(Lane::S1 | Lane::S2), Answer::Delivered(Outcome::Released(_, _)))
+            | (_, Answer::Delivered(Outcome::PlainReleased(_))) => {
+                format!(in alloc; "job {jobs}")
+            }
+            (_, Answer::Delivered(Outcome::Kept(_, _)) | Answer::Expired(_, _)) => {
+                share_words(alloc, share.0, share.1)
+            }
+            (_, Answer::Delivered(Outcome::ReportNoted(service, subtype))) => {
+                String::from_str(alloc, kind_word(service, subtype))
+            }
+            (_, Answer::Delivered(Outcome::AbortNoted(_, why) | Outcome::Broken(_, why))) => {
+                let words = ["expired", "discontinuity", "conflict"];
+                String::from_str(alloc, words[why as usize])
+            }
+            (_, Answer::Applied(applied)) => self.job_words(applied),
+            _ => Ok(String::new(alloc)),
+        }
+    }
+
+    // Which job is executed, why it failed if it did, and which areas its request names.
+    fn job_words(&self, applied: Applied) -> Result<String, AllocError> {
+        let (alloc, job) = (self.alloc(), self.applied);
+        let mut words = format!(in alloc; "job {job}")?;
+        if let Applied::Code(code) = applied {
+            words.push_str(code_words(code))?;
+        }
+        let place = self.tasks.get(job as usize).copied().unwrap_or(0);
+        if let Some(about) = self.known.about.get(place as usize) {
+            words.push_str(about.areas.as_str())?;
+        }
+        Ok(words)
+    }
+}
+
+/// That rows are left out, above and below.
 pub(crate) fn hidden_words(
     alloc: Global,
     above: usize,
     below: usize,
 ) -> Result<String, AllocError> {
-    if above == 0 {
-        format!(in alloc; "rows left out: {below} below; --from and --to choose")
-    } else if below == 0 {
-        format!(in alloc; "rows left out: {above} above; --from and --to choose")
-    } else {
-        format!(in alloc; "rows left out: {above} above, {below} below; --from and --to choose")
-    }
+    format!(in alloc; "rows left out: {above} above, {below} below; --from and --to choose")
 }
 
 /// How far a job has come.
@@ -216,18 +247,6 @@ pub(crate) fn turn_words(
             let word = stage_word(stage);
             format!(in alloc; "job {number}{word}")?
         }
-    };
-    Ok(Octets::from_vec(words.into_bytes()))
-}
-
-/// What else is said of a piece of a track: how many parts are kept.
-pub(crate) fn more_words(alloc: Global, track: Track) -> Result<Octets, AllocError> {
-    let words = match track.turn.stage {
-        Some(Stage::Kept) => {
-            let kept = track.kept;
-            format!(in alloc; ": kept {kept}")?
-        }
-        _ => String::new(alloc),
     };
     Ok(Octets::from_vec(words.into_bytes()))
 }

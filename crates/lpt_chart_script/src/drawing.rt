@@ -1,13 +1,13 @@
 //! The picture of a script's run.
 
-ghost use Rattle.std.specs.Prelude.{◌≡◌, ◌≢◌, ◌↔◌, [], Err, IfOk, IsErrOf, IsSome, string_bytes};
+ghost use Rattle.std.specs.Prelude.{◌≡◌, ◌≢◌, ◌↔◌, Err, IfOk, IsErrOf, IsSome, string_bytes};
 ghost use Rattle.lpt_chart.specs.Charts.{IsChart};
-ghost use Rattle.lpt_chart_script.specs.Drawings.{Draws, IsDrawing, IsDrawn, drawn_refusals, places, run_end};
+ghost use Rattle.lpt_chart_script.specs.Drawings.{Draws, IsDrawing, drawn_refusals, run_end};
 ghost use Rattle.lpt_events.specs.Configs.{config_fault};
 ghost use Rattle.lpt_world.specs.Worlds.{new_world};
 
 use crate::front::front_of;
-use crate::known::{kinds_of, openings_of};
+use crate::known::{about_of, kinds_of};
 use crate::running::run_text;
 use crate::title::title_of;
 use lpt_chart::{Choice, Known, Refusal, chart};
@@ -21,8 +21,8 @@ use std::alloc::{AllocError, Global};
 /// The picture of a script's run, how the run ended, and how many events there were.
 #[derive(Drop)]
 pub struct Drawing {
-    /// The picture, as one SVG: of all, or of what happened before an unreadable line, or before the
-    /// script couldn't be read.
+    /// The picture, as one SVG: of all, or of what happened before an unreadable line, or before
+    /// the script couldn't be read.
     pub picture: String,
     /// How the run ended: `Line` at an unreadable line, `Read` if a read failed or more octets came
     /// than a script may have.
@@ -31,12 +31,13 @@ pub struct Drawing {
     pub events: u64,
 }
 
-/// Reads a script from a reader, runs its lines on a new world of this configuration and these memories,
-/// and draws what happened: rows as they are chosen, and the lines that were refused if `all` says so.
+/// Reads a script from a reader, runs its lines on a new world of this configuration and these
+/// memories, and draws what happened: rows as they are chosen, and the lines that were refused if
+/// `all` says so.
 ///
-/// The title is the first sentence of the script's first comment. A script has 16,777,216 octets at most.
-/// A run that ends at an unreadable line, at a read that failed or at too many octets is drawn up to
-/// there, and the drawing says how it ended.
+/// The title is the first sentence of the script's first comment. A script has 16,777,216 octets at
+/// most. A run that ends at an unreadable line, at a read that failed or at too many octets is
+/// drawn up to there, and the drawing says how it ended.
 ///
 /// Errors: `Config` for a configuration out of its ranges, before anything is read; `Memory`.
 pub fn draw_script<S: Source>(
@@ -96,27 +97,8 @@ fn draw_text(
 ) -> Result<Drawing, AllocError>
     ensures { IfOk result (λ d. IsDrawing world.old choice all end text.now d) }
 {
-    let front = front_of(end, text);
-    let mut refused = Vec::new(alloc);
-    let drawn = draw_front(alloc, world, choice, all, end, front, &mut refused);
-    drop(refused);
-    drawn
-}
-
-// The same of what is run of it.
-fn draw_front(
-    alloc: Global,
-    world: &mut World,
-    choice: Choice,
-    all: bool,
-    end: End,
-    front: &[u8],
-    refused: &mut Vec<Refusal>,
-) -> Result<Drawing, AllocError>
-    requires { refused.old.items ≡ [] }
-    ensures { IfOk result (λ d. IsDrawn world.old choice all end front.now d) }
-{
-    let bad = run_text(alloc, world, refused, front)?;
+    let (front, mut refused) = (front_of(end, text), Vec::new(alloc));
+    let bad = run_text(alloc, world, &mut refused, front)?;
     let ran = run_end(end, refused.len() as u64, bad);
     let events = world.journal().len() as u64;
     let title = title_of(alloc, front)?;
@@ -135,8 +117,8 @@ fn draw_front(
     })
 }
 
-// How a script's run ended whose text was read to this end, by how many lines were refused and by the
-// number of an unreadable one.
+// How a script's run ended whose text was read to this end, by how many lines were refused and by
+// the number of an unreadable one.
 fn run_end(end: End, refused: u64, bad: Option<u64>) -> Result<ScriptEnd, ScriptFault>
     ensures { result ≡ run_end end refused bad }
 {
@@ -159,11 +141,11 @@ fn print_run(
     ensures { IfOk result (λ t. IsChart world.now.config.source choice title.now world.now.journal
         (drawn_refusals all refused.now) (string_bytes t)) }
 {
-    let (kinds, opened) = (kinds_of(alloc, world)?, openings_of(alloc, world)?);
+    let (kinds, about) = (kinds_of(alloc, world)?, about_of(alloc, world)?);
     let known = Known {
         source: world.config().source,
         kinds,
-        opened,
+        about,
     };
     let journal = world.journal();
     chart(

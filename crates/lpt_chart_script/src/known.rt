@@ -2,7 +2,8 @@
 
 ghost use Rattle.lpt_part.specs.Splitting.{IsPartSize};
 
-use lpt_chart::{Kind, Opened};
+use lpt_chart::{About, Kind};
+use lpt_script_text::print_areas;
 use lpt_world::World;
 use std::alloc::{AllocError, Global};
 
@@ -22,15 +23,33 @@ fn part_count(len: usize, part_size: u32) -> u16
     len.div_ceil(part_size as usize).min(65_535) as u16
 }
 
-/// The messages that were opened, with the number of their parts.
-pub(crate) fn openings_of(alloc: Global, world: &World) -> Result<Vec<Opened>, AllocError> {
-    let part_size = world.config().part_size;
-    let mut openings = Vec::new(alloc);
-    for opening in world.opened() {
-        openings.push(Opened {
-            place: opening.place,
-            parts: part_count(opening.message.as_slice().len(), part_size),
-        })?;
+// The areas that a message names, behind other words; nothing if it names none.
+fn areas_of(alloc: Global, message: &[u8]) -> Result<String, AllocError> {
+    let mut line = print_areas(alloc, message)?;
+    match line.pop() {
+        Some(_) => format!(in alloc; ", {line}"),
+        None => Ok(line),
     }
-    Ok(openings)
+}
+
+/// What is known of each entry of the journal: how many parts the message has that it opened, and
+/// the areas of what it released.
+pub(crate) fn about_of(alloc: Global, world: &World) -> Result<Vec<About>, AllocError> {
+    let (part_size, mut about) = (world.config().part_size, Vec::new(alloc));
+    for _ in world.journal() {
+        let areas = String::new(alloc);
+        about.push(About { parts: 0, areas })?;
+    }
+    for opening in world.opened() {
+        if let Some(one) = about.get_mut(opening.place as usize) {
+            one.parts = part_count(opening.message.as_slice().len(), part_size);
+        }
+    }
+    for release in world.released() {
+        let areas = areas_of(alloc, release.message.as_slice())?;
+        if let Some(one) = about.get_mut(release.place as usize) {
+            one.areas = areas;
+        }
+    }
+    Ok(about)
 }

@@ -1,5 +1,5 @@
-//! The picture of a script's run, as a function of the octets that were read: the lines are run on a new
-//! world, and what happened is drawn, with the lines that were refused if that is asked.
+//! The picture of a script's run, as a function of the octets that were read: the lines are run on
+//! a new world, and what happened is drawn, with the lines that were refused if that is asked.
 //!
 //! The main type is `Drawing`, and the first call `draw_script`.
 #![tactic(auto)]
@@ -10,7 +10,6 @@ mod known;
 pub mod laws;
 mod quiet;
 mod running;
-mod sides;
 mod title;
 
 pub use drawing::{Drawing, draw_script};

@@ -7,9 +7,8 @@ ghost use Rattle.lpt_text.specs.Texts.{lines};
 ghost use Rattle.lpt_script.specs.Scripts.{command_ran, line_ran};
 
 use crate::quiet::Nowhere;
-use crate::sides::side_of;
 use lpt_chart::Refusal;
-use lpt_events::{Side, StepFault};
+use lpt_events::StepFault;
 use lpt_packet::Octets;
 use lpt_script::run_command;
 use lpt_script_words::{Command, Reading, read_line};
@@ -20,8 +19,8 @@ use std::alloc::{AllocError, Global};
 /// The most octets of a refused line that are shown.
 const SHOWN: usize = 200;
 
-/// Runs the lines of a text on a world, up to an unreadable one, and gives its number; those that are
-/// refused are added to the others.
+/// Runs the lines of a text on a world, up to an unreadable one, and gives its number; those that
+/// are refused are added to the others.
 ///
 /// The only error is out of memory.
 pub fn run_text(
@@ -63,10 +62,9 @@ fn run_line(
         Reading::Skipped => Ok(true),
         Reading::Unreadable => Ok(false),
         Reading::Asks(command) => {
-            let side = side_of(&command);
             let fault = run_quietly(alloc, world, command)?;
             let place = world.journal().len() as u64;
-            note(alloc, refused, place, side, number, line, fault)?;
+            note(alloc, refused, place, number, line, fault)?;
             Ok(true)
         }
     }
@@ -94,7 +92,6 @@ fn note(
     alloc: Global,
     refused: &mut Vec<Refusal>,
     place: u64,
-    side: Side,
     number: u64,
     line: &[u8],
     fault: Option<StepFault>,
@@ -108,7 +105,6 @@ fn note(
     let front = line.split_at(line.len().min(SHOWN)).0;
     refused.push(Refusal {
         place,
-        side,
         line: number,
         fault,
         words: Octets::from_vec(Vec::from_slice(alloc, front)?),

@@ -28,8 +28,8 @@ fn place_behind(place: TitlePlace, octet: u8) -> TitlePlace {
     }
 }
 
-// Whether a title that stands already ends before this octet: behind a full stop, or at a line that is
-// no comment.
+// Whether a title that stands already ends before this octet: behind a full stop, or at a line that
+// is no comment.
 fn is_over(place: TitlePlace, stop: bool, octet: u8) -> bool {
     match octet {
         b' ' => stop,
@@ -39,9 +39,9 @@ fn is_over(place: TitlePlace, stop: bool, octet: u8) -> bool {
     }
 }
 
-/// The first sentence of a script's first comment: its lines, without marks and joined by a space, up to
-/// the first full stop before a space or a line end. Without a comment it is `A run`. The only error is
-/// out of memory.
+/// The first sentence of a script's first comment: its lines, without marks and joined by a space,
+/// up to the first full stop before a space or a line end. Without a comment it is `A run`. The
+/// only error is out of memory.
 pub fn title_of(alloc: Global, text: &[u8]) -> Result<Vec<u8>, AllocError> {
     let mut title = Vec::new(alloc);
     let (mut place, mut stop) = (TitlePlace::Start, false);

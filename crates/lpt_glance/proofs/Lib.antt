@@ -1,5 +1,5 @@
 mod CountLemmas
 mod DrawnLemmas
+mod PictureTags
 mod RowLemmas
 mod SeenLemmas
-mod ToldLemmas

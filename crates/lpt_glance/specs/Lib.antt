@@ -4,5 +4,5 @@ pub mod Looks
 pub mod Pictures
 pub mod Places
 pub mod Scales
-pub mod Shapes
 pub mod Shown
+pub mod Styles

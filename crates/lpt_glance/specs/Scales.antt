@@ -12,7 +12,7 @@ pitch_of rows = if nat_le rows 24 then 40 else 24
 
 -- the foot of the row at a place
 abbrev pub foot_of : (rows place : ℕ) → ℕ
-foot_of rows place = 16 + (place + 1) * pitch_of rows
+foot_of rows place = 124 + (place + 1) * pitch_of rows
 
 -- what marks stand on that are drawn so: those of parts on their row's foot, the others below all
 -- rows

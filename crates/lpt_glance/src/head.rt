@@ -1,41 +1,14 @@
-//! What is said above the rows: how much came, and what those marks stand for that there are.
+//! What is said above the rows: how much came, and what marks of parts stand for.
 
-ghost use Rattle.std.specs.Prelude.{◌≡◌, ◌≤◌, ◌^◌, ◌∷◌, ◌++◌, [], OnOk, count_by};
-ghost use Rattle.std.specs.List.{flat_map};
+ghost use Rattle.std.specs.Prelude.{◌≡◌, ◌∷◌, ◌++◌, [], OnOk, count_by};
+ghost use Rattle.lpt_shapes.specs.Shapes.{Says, shown};
+ghost use Rattle.lpt_shapes.specs.declared.words.Word.TheVariants.{Number};
 ghost use Rattle.lpt_glance.specs.Looks.{is_packet, is_part};
-ghost use Rattle.lpt_glance.specs.Pictures.{count_of, entry_told};
-ghost use Rattle.lpt_glance.specs.Shapes.{Says, told};
+ghost use Rattle.lpt_glance.specs.Pictures.{count_of, entry_told, head_told, legend_told};
 
-use crate::shape::{Shape, Word, add, count, no_words};
 use crate::{Key, Mark};
+use lpt_shapes::{Shape, Word, add, no_words, say, say_count};
 use std::alloc::AllocError;
-
-/// What the picture is, and how marks look, in shapes that are told apart without colour.
-pub(crate) const STYLE: &str = "' font-family='DejaVu Sans Mono, monospace' font-size='11'>\
-    <title>A stream of packets</title><desc>A row for each transaction: its parts at their places \
-    in the stream, as high as their numbers; below them what is no part.</desc><style>\
-    text{fill:#1a1a1a}path{fill:none;stroke-width:2}.l{stroke:#ddd;stroke-width:1}\
-    .t{font-size:15px;font-weight:bold}.k{fill:#666}.m{fill:#666;text-anchor:middle}\
-    .e{font-size:10px}.o{font-size:10px;font-weight:bold}\
-    .f{stroke:#0b5fa5;stroke-width:3}.a{stroke:#666}.n{stroke:#888}\
-    .w{fill:#2e7d32;stroke:#2e7d32}.c,.u{stroke:#b00020}.g,.d{fill:#b00020;stroke:#b00020}\
-    .s{fill:#1a1a1a;stroke:#1a1a1a}\
-    @media(prefers-color-scheme:dark){rect{fill:#161616}text{fill:#e8e8e8}.l{stroke:#383838}\
-    .k,.m{fill:#aaa}.f{stroke:#6cb6f5}.a,.n{stroke:#aaa}.w{fill:#7ccf80;stroke:#7ccf80}\
-    .c,.u{stroke:#ff7a85}.g,.d{fill:#ff7a85;stroke:#ff7a85}.s{fill:#e8e8e8;stroke:#e8e8e8}}\
-    </style><rect width='100%' height='100%' fill='#fff'/><text x='8' y='44' class='k'>\
-    A bar is a part at its place in the stream, as high as its number; what came of it stands \
-    below.</text>";
-
-/// The marks that are explained, if there are some: those of parts.
-const KEYS: [Key; 6] = [
-    Key::New,
-    Key::Ahead,
-    Key::Again,
-    Key::Against,
-    Key::Whole,
-    Key::Unfit,
-];
 
 /// What marks stand for, by the places of their ways of drawing.
 const WORDS: [&str; 9] = [
@@ -65,62 +38,6 @@ fn count_of(key: Key, marks: &[Mark]) -> usize
     marks.iter().filter(|m| m.key.code() == key.code()).count()
 }
 
-// How many of those that are explained come before this one of the ways of drawing, and are used.
-fn before(marks: &[Mark], code: u8) -> usize {
-    KEYS.iter()
-        .filter(|key| key.code() < code && count_of(**key, marks) > 0)
-        .count()
-}
-
-// How far from the top the rows' part stands.
-pub(crate) fn top_of(marks: &[Mark]) -> u128
-    ensures { result ≤ 2 ^ 72 }
-{
-    64 + (before(marks, 6) as u128 + 2) / 3 * 22
-}
-
-// Adds how many marks are drawn so, at a point.
-pub(crate) fn add_count(
-    out: &mut Vec<Shape>,
-    x: u128,
-    y: u128,
-    marks: &[Mark],
-    key: Key,
-) -> Result<(), AllocError>
-    ensures { OnOk result (told out.new.items ≡ told out.old.items
-        ++ Says (Word.Number (count_of key marks.now) ∷ []) ∷ []) }
-{
-    let mut words = no_words(*out.allocator());
-    count(&mut words, words_of(key), count_of(key, marks) as u64)?;
-    add(out, Shape::Text(x, y, 2, words))
-}
-
-// Adds what is said of such a mark, if there is one: three stand beside one another.
-#[tactic(auto, unfolding(crate::specs::Pictures::entry_told))]
-fn add_entry(out: &mut Vec<Shape>, marks: &[Mark], key: Key) -> Result<(), AllocError>
-    ensures { OnOk result (told out.new.items
-        ≡ told out.old.items ++ entry_told marks.now key) }
-{
-    if count_of(key, marks) == 0 {
-        return Ok(());
-    }
-    let place = before(marks, key.code()) as u128;
-    let (x, y) = (13 + 330 * (place % 3), 58 + 22 * (place / 3));
-    add(out, Shape::Sample(x, y, y + 10, key))?;
-    add_count(out, x + 15, y + 14, marks, key)
-}
-
-// Adds what such marks stand for, of those that there are.
-fn add_legend(out: &mut Vec<Shape>, marks: &[Mark], keys: &[Key]) -> Result<(), AllocError>
-    ensures { OnOk result (told out.new.items
-        ≡ told out.old.items ++ flat_map (entry_told marks.now) keys.now) }
-{
-    for key in keys {
-        add_entry(out, marks, *key)?;
-    }
-    Ok(())
-}
-
 // How many of these are packets'.
 fn packets_in(marks: &[Mark]) -> usize
     ensures { result ≡ count_by is_packet marks.now }
@@ -135,6 +52,61 @@ fn parts_in(marks: &[Mark]) -> usize
     marks.iter().filter(|m| m.key.code() < 6).count()
 }
 
+/// Adds letters at a point.
+pub(crate) fn note(out: &mut Vec<Shape>, y: u128, letters: &'static str) -> Result<(), AllocError>
+    ensures { OnOk result (shown out.new.items ≡ shown out.old.items ++ Says 8 y [] ∷ []) }
+{
+    let mut words = no_words(*out.allocator());
+    say(&mut words, Word::Letters(letters))?;
+    add(out, Shape::Says(8, y, "note", words))
+}
+
+/// Adds how many marks are drawn so, at a point.
+pub(crate) fn add_count(
+    out: &mut Vec<Shape>,
+    x: u128,
+    y: u128,
+    marks: &[Mark],
+    key: Key,
+) -> Result<(), AllocError>
+    ensures { OnOk result (shown out.new.items ≡ shown out.old.items
+        ++ Says x y (Number (count_of key marks.now) ∷ []) ∷ []) }
+{
+    let mut words = no_words(*out.allocator());
+    say_count(&mut words, words_of(key), count_of(key, marks) as u64)?;
+    add(out, Shape::Says(x, y, "count", words))
+}
+
+// Adds what such a mark stands for: a sample from a point on, and how many there are.
+#[tactic(auto, unfolding(crate::specs::Pictures::entry_told))]
+fn add_entry(
+    out: &mut Vec<Shape>,
+    x: u16,
+    y: u16,
+    marks: &[Mark],
+    key: Key,
+) -> Result<(), AllocError>
+    ensures { OnOk result (shown out.new.items
+        ≡ shown out.old.items ++ entry_told marks.now x y key) }
+{
+    let (x, y) = (u128::from(x), u128::from(y));
+    add(out, Shape::Mark(x, y, y + 10, key.steps(), key.name()))?;
+    add_count(out, x + 15, y + 14, marks, key)
+}
+
+// Adds what marks of parts stand for, three beside one another.
+fn add_legend(out: &mut Vec<Shape>, marks: &[Mark]) -> Result<(), AllocError>
+    ensures { OnOk result (shown out.new.items
+        ≡ shown out.old.items ++ legend_told marks.now) }
+{
+    add_entry(out, 13, 58, marks, Key::New)?;
+    add_entry(out, 343, 58, marks, Key::Ahead)?;
+    add_entry(out, 673, 58, marks, Key::Again)?;
+    add_entry(out, 13, 80, marks, Key::Against)?;
+    add_entry(out, 343, 80, marks, Key::Whole)?;
+    add_entry(out, 673, 80, marks, Key::Unfit)
+}
+
 /// Adds what is above so many rows: how much came, and what marks stand for.
 pub(crate) fn add_head(
     out: &mut Vec<Shape>,
@@ -143,17 +115,18 @@ pub(crate) fn add_head(
     octets: u64,
     marks: &[Mark],
 ) -> Result<(), AllocError>
-    ensures { OnOk result (told out.new.items ≡ told out.old.items
-        ++ Says (Word.Number (count_by is_packet marks.now) ∷ Word.Number octets ∷ Word.Number apid
-        ∷ Word.Number rows ∷ Word.Number (count_by is_part marks.now) ∷ [])
-        ∷ flat_map (entry_told marks.now) KEYS) }
+    ensures { OnOk result (shown out.new.items ≡ shown out.old.items
+        ++ head_told apid rows octets marks.now) }
 {
     let mut words = no_words(*out.allocator());
-    count(&mut words, "packets: ", packets_in(marks) as u64)?;
-    count(&mut words, ", octets: ", octets)?;
-    count(&mut words, ", transactions of APID ", u64::from(apid))?;
-    count(&mut words, ": ", rows as u64)?;
-    count(&mut words, ", parts: ", parts_in(marks) as u64)?;
-    add(out, Shape::Text(8, 24, 0, words))?;
-    add_legend(out, marks, &KEYS)
+    say_count(&mut words, "packets: ", packets_in(marks) as u64)?;
+    say_count(&mut words, ", octets: ", octets)?;
+    say_count(&mut words, ", transactions of APID ", u64::from(apid))?;
+    say_count(&mut words, ": ", rows as u64)?;
+    say_count(&mut words, ", parts: ", parts_in(marks) as u64)?;
+    add(out, Shape::Says(8, 24, "title", words))?;
+    let read = "A bar is a part at its place in the stream, as high as its number; what came of \
+        it stands below.";
+    note(out, 44, read)?;
+    add_legend(out, marks)
 }

@@ -16,7 +16,7 @@ mod places;
 mod row;
 mod rows;
 mod scale;
-mod shape;
+mod style;
 mod view;
 
 pub use glance::{Glance, look};

@@ -1,40 +1,49 @@
 //! A picture as one SVG.
 
-ghost use Rattle.std.specs.Prelude.{◌≡◌, ◌∷◌, ◌++◌, [], ℕ, length, IfOk, OnOk, string_bytes};
+ghost use Rattle.std.specs.Prelude.{◌≡◌, ◌∷◌, ◌++◌, [], codes, length, IfOk, OnOk, string_bytes};
 ghost use Rattle.std.specs.List.{flat_map};
-ghost use Rattle.lpt_glance.specs.Pictures.{IsPicture, closing_text, given_up_told, lane_told, left_told, mark_text, name_told, opening_text, picture_told, row_told, rows_told, user_in};
-ghost use Rattle.lpt_glance.specs.Shapes.{said, shape_text, told};
+ghost use Rattle.lpt_packet.specs.Directions.{direction_word};
+ghost use Rattle.lpt_shapes.specs.Shapes.{opening_text, shape_text, shown};
+ghost use Rattle.lpt_shapes.specs.Words.{said};
+ghost use Rattle.lpt_shapes.specs.declared.words.Word.TheVariants.{Number, Text};
+ghost use Rattle.lpt_glance.specs.Pictures.{IsPicture, given_up_told, left_told, name_told, picture_told, row_told, rows_told, text_of, user_in};
 ghost use Rattle.lpt_glance.specs.Looks.{reading};
 ghost use Rattle.lpt_glance.specs.Scales as scales;
 ghost use Rattle.lpt_glance.specs.Shown.{seen_of};
 
-use crate::head::{STYLE, add_count, add_head, top_of};
+use crate::head::{add_count, add_head, note};
 use crate::row::Row;
-use crate::scale::{add_scale, base_of, foot_of, mark_x, mark_y};
-use crate::shape::{Shape, Word, add, count, no_shapes, no_words, say, write_drawn, write_shapes};
+use crate::scale::{add_scale, base_of, foot_of, mark_x, mark_y, step_of};
+use crate::style::SHEET;
 use crate::{Glance, Key, Mark, View};
 use lpt_carried::Direction;
 use lpt_layout::Width;
+use lpt_shapes::{
+    Octets, Shape, Word, add, no_shapes, no_words, print_opening, say, say_count, write_mark,
+    write_shapes,
+};
 use std::alloc::{AllocError, Global};
 
-/// What is drawn of a stream, as one SVG of ASCII, for a light and a dark ground: above the rows how
-/// much came, what those marks stand for that there are, and a scale in octets; for each mark an
-/// element, and of each row what came whole and what is left. A name of this source is written
-/// without it. The only error is out of memory.
+/// What the picture is.
+pub(crate) const TITLE: &str = "A stream of packets";
+
+/// How it is read.
+pub(crate) const SHOWN: &str = "A row for each transaction: its parts at their places in the \
+    stream, as high as their numbers; below them what is no part.";
+
+/// What is drawn of a stream, as one SVG of ASCII, for a light and a dark ground: above the rows
+/// how much came, what marks of parts stand for, and a scale in octets; for each mark an element,
+/// and of each row what came whole and what is left. A name of this source is written without it.
+/// The only error is out of memory.
 pub fn draw(alloc: Global, source: u32, glance: &Glance) -> Result<String, AllocError>
     ensures { IfOk result (λ t. IsPicture glance.now.view source (seen_of glance.now)
         (string_bytes t)) }
 {
-    let high = high_of(glance);
-    let shapes = shapes_of(alloc, source, glance)?;
+    let (rows, step) = (glance.rows.list.len(), step_of(glance.octets));
+    let high = foot_of(rows, rows) + 84;
+    let shapes = shapes_of(alloc, source, step, glance)?;
     let text = print_shapes(alloc, high, shapes.as_slice(), glance)?;
     Ok(text)
-}
-
-// How high the picture is.
-fn high_of(glance: &Glance) -> u128 {
-    let rows = glance.rows.list.len();
-    top_of(glance.marks.as_slice()) + foot_of(rows, rows) + 84
 }
 
 // The text of shapes and marks, so high.
@@ -44,40 +53,29 @@ fn print_shapes(
     shapes: &[Shape],
     glance: &Glance,
 ) -> Result<String, AllocError>
-    ensures { IfOk result (λ t. string_bytes t ≡ opening_text high
+    ensures { IfOk result (λ t. string_bytes t
+        ≡ opening_text 1040 high SHEET.now TITLE.now SHOWN.now
         ++ flat_map shape_text shapes.now
-        ++ flat_map (mark_text glance.now.rows.list.items glance.now.octets) glance.now.marks.items
-        ++ closing_text) }
+        ++ flat_map (text_of glance.now.rows.list.items glance.now.octets) glance.now.marks.items
+        ++ (codes "</svg>" ++ 10 ∷ [])) }
 {
-    let mut out = print_opening(alloc, high)?;
+    let (title, shown) = (TITLE.as_bytes(), SHOWN.as_bytes());
+    let mut out = print_opening(alloc, 1040, high, SHEET, title, shown)?;
     write_shapes(&mut out, shapes)?;
     let (rows, marks) = (glance.rows.list.as_slice(), glance.marks.as_slice());
     write_marks(&mut out, rows, glance.octets, marks)?;
-    out.push_str("</g></svg>\n")?;
+    out.push_str("</svg>\n")?;
     Ok(out)
 }
 
-// The beginning of a picture so high.
-#[tactic(auto, unfolding(crate::specs::Pictures::opening_text))]
-fn print_opening(alloc: Global, high: u128) -> Result<String, AllocError>
-    ensures { IfOk result (λ t. string_bytes t ≡ opening_text high) }
-{
-    let style = STYLE;
-    format!(in alloc;
-        "<svg xmlns='http://www.w3.org/2000/svg' role='img' width='1040' height='{high}' \
-        viewBox='0 0 1040 {high}{style}"
-    )
-}
-
 // Writes a mark.
-fn write_mark(out: &mut String, rows: &[Row], octets: u64, mark: &Mark) -> Result<(), AllocError>
+fn write_one(out: &mut String, rows: &[Row], octets: u64, mark: &Mark) -> Result<(), AllocError>
     ensures { OnOk result (string_bytes out.new
-        ≡ string_bytes out.old ++ mark_text rows.now octets mark.now) }
+        ≡ string_bytes out.old ++ text_of rows.now octets mark.now) }
 {
     let (x, y) = (mark_x(octets, u128::from(mark.place)), mark_y(rows, mark));
-    let foot = base_of(rows.len(), mark.key, mark.row);
-    write_drawn(out, x, y, foot, mark.key)?;
-    out.push_str("\n")
+    let (foot, key) = (base_of(rows.len(), mark.key, mark.row), mark.key);
+    write_mark(out, x, y, foot, key.steps(), key.name())
 }
 
 // Writes each mark.
@@ -88,26 +86,30 @@ fn write_marks(
     marks: &[Mark],
 ) -> Result<(), AllocError>
     ensures { OnOk result (string_bytes out.new
-        ≡ string_bytes out.old ++ flat_map (mark_text rows.now octets) marks.now) }
+        ≡ string_bytes out.old ++ flat_map (text_of rows.now octets) marks.now) }
 {
     for mark in marks {
-        write_mark(out, rows, octets, mark)?;
+        write_one(out, rows, octets, mark)?;
     }
     Ok(())
 }
 
 // The shapes beside the marks.
-fn shapes_of(alloc: Global, source: u32, glance: &Glance) -> Result<Vec<Shape>, AllocError>
-    ensures { IfOk result (λ v. told v.items
-        ≡ picture_told glance.now.view source (seen_of glance.now)) }
+fn shapes_of(
+    alloc: Global,
+    source: u32,
+    step: u64,
+    glance: &Glance,
+) -> Result<Vec<Shape>, AllocError>
+    ensures { IfOk result (λ v. shown v.items
+        ≡ picture_told glance.now.view source step (seen_of glance.now)) }
 {
     let (rows, marks) = (glance.rows.list.as_slice(), glance.marks.as_slice());
     let (view, octets, many) = (&glance.view, glance.octets, rows.len());
     let (foot, mut out) = (foot_of(many, many), no_shapes(alloc));
     add_head(&mut out, view.up.apid, many, octets, marks)?;
-    add(&mut out, Shape::Group(top_of(marks)))?;
-    add_octet(&mut out)?;
-    add_scale(&mut out, foot + 56, octets)?;
+    note(&mut out, 120, "octet")?;
+    add_scale(&mut out, foot + 56, octets, step)?;
     add_rows(&mut out, view, source, rows)?;
     add_count(&mut out, 8, foot, marks, Key::NoPart)?;
     add_count(&mut out, 8, foot + 24, marks, Key::Damaged)?;
@@ -115,18 +117,9 @@ fn shapes_of(alloc: Global, source: u32, glance: &Glance) -> Result<Vec<Shape>, 
     Ok(out)
 }
 
-// Adds what the scale is in.
-fn add_octet(out: &mut Vec<Shape>) -> Result<(), AllocError>
-    ensures { OnOk result (told out.new.items ≡ told out.old.items) }
-{
-    let mut words = no_words(*out.allocator());
-    say(&mut words, Word::Letters("octet"))?;
-    add(out, Shape::Text(8, 12, 1, words))
-}
-
 // Adds each row.
 fn add_rows(out: &mut Vec<Shape>, view: &View, source: u32, rows: &[Row]) -> Result<(), AllocError>
-    ensures { OnOk result (told out.new.items ≡ told out.old.items
+    ensures { OnOk result (shown out.new.items ≡ shown out.old.items
         ++ rows_told view.now source (length rows.now) 0 rows.now) }
 {
     for (place, row) in rows.iter().enumerate() {
@@ -144,13 +137,15 @@ fn add_row(
     y: u128,
     row: &Row,
 ) -> Result<(), AllocError>
-    ensures { (rows place : ℕ) → y ≡ scales.foot_of rows place → OnOk result (told out.new.items
-        ≡ told out.old.items ++ row_told view.now source rows place row.now ∷ []) }
+    ensures { OnOk result (shown out.new.items
+        ≡ shown out.old.items ++ row_told view.now source y row.now) }
 {
+    let look = if row.left.count == 0 { "done" } else { "open" };
     let name = name_words(*out.allocator(), view, source, row)?;
-    let words = came_words(*out.allocator(), row)?;
-    let look = if row.left.count == 0 { 3 } else { 4 };
-    add(out, Shape::Row(y, name, look, words))
+    let came = came_words(*out.allocator(), row)?;
+    add(out, Shape::Line(120, y, 720, y, "line"))?;
+    add(out, Shape::Says(8, y, "count", name))?;
+    add(out, Shape::Says(732, y, look, came))
 }
 
 // The user that names of a direction are written without, if this source is configured.
@@ -169,34 +164,35 @@ fn user_in(view: &View, source: u32, direction: Direction) -> u32
 
 // Whose a row is.
 fn name_words(alloc: Global, view: &View, source: u32, row: &Row) -> Result<Vec<Word>, AllocError>
-    ensures { IfOk result (λ ws. said ws.items ≡ Word.Way row.now.direction
+    ensures { IfOk result (λ ws. said ws.items ≡ Text (direction_word row.now.direction)
         ∷ name_told (user_in source (reading view.now row.now.direction).layout.user)
         row.now.name) }
 {
     let mut words = no_words(alloc);
-    say(&mut words, Word::Way(row.direction))?;
+    let way = Vec::from_slice(alloc, row.direction.word().as_bytes())?;
+    say(&mut words, Word::Text(Octets::from_vec(way)))?;
     let mut between = " ";
     if row.name.user != user_in(view, source, row.direction) {
-        count(&mut words, " ", u64::from(row.name.user))?;
+        say_count(&mut words, " ", u64::from(row.name.user))?;
         between = "/";
     }
-    count(&mut words, between, u64::from(row.name.id))?;
+    say_count(&mut words, between, u64::from(row.name.id))?;
     Ok(words)
 }
 
 // How much came of a transaction.
 fn came_words(alloc: Global, row: &Row) -> Result<Vec<Word>, AllocError>
-    ensures { IfOk result (λ ws. said ws.items ≡ Word.Number row.now.whole
+    ensures { IfOk result (λ ws. said ws.items ≡ Number row.now.whole
         ∷ given_up_told row.now.given_up ++ left_told row.now.left) }
 {
     let mut words = no_words(alloc);
-    count(&mut words, "whole: ", row.whole)?;
+    say_count(&mut words, "whole: ", row.whole)?;
     if row.given_up > 0 {
-        count(&mut words, ", given up: ", row.given_up)?;
+        say_count(&mut words, ", given up: ", row.given_up)?;
     }
     if row.left.count > 0 {
-        count(&mut words, ", open parts: ", row.left.count as u64)?;
-        count(&mut words, ", up to ", row.left.highest as u64)?;
+        say_count(&mut words, ", open parts: ", row.left.count as u64)?;
+        say_count(&mut words, ", up to ", row.left.highest as u64)?;
     }
     Ok(words)
 }

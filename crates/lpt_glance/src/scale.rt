@@ -1,12 +1,13 @@
 //! Where things stand in a picture, in pixels, and the scale along the stream.
 
-ghost use Rattle.std.specs.Prelude.{◌≡◌, ◌≤◌, ◌^◌, OnOk};
+ghost use Rattle.std.specs.Prelude.{◌≡◌, ◌≤◌, ◌^◌, ◌++◌, OnOk};
 ghost use Rattle.lpt_glance.specs.Scales.{base_of, foot_of, mark_x, mark_y, most_at, pitch_of};
-ghost use Rattle.lpt_glance.specs.Shapes.{told};
+ghost use Rattle.lpt_shapes.specs.Shapes.{shown};
+ghost use Rattle.lpt_glance.specs.Pictures.{line_told, scale_told};
 
 use crate::row::Row;
-use crate::shape::{Shape, add};
 use crate::{Key, Mark};
+use lpt_shapes::{Shape, add, add_number};
 use std::alloc::AllocError;
 
 // How far rows stand from each other, if there are so many.
@@ -23,7 +24,7 @@ pub(crate) fn foot_of(rows: usize, place: usize) -> u128
     ensures value { result ≡ foot_of rows place }
     ensures small { result ≤ 2 ^ 72 }
 {
-    16 + (place as u128 + 1) * u128::from(pitch_of(rows))
+    124 + (place as u128 + 1) * u128::from(pitch_of(rows))
 }
 
 // What marks stand on that are drawn so.
@@ -67,7 +68,7 @@ pub(crate) fn mark_x(octets: u64, place: u128) -> u128
 }
 
 // Of so many octets, how far lines stand from each other: so far that they are ten at most.
-fn step_of(octets: u64) -> u64 {
+pub(crate) fn step_of(octets: u64) -> u64 {
     let (mut step, mut lead): (u64, u8) = (1, 1);
     for _ in 0..37 {
         if octets / 10 < step {
@@ -82,25 +83,35 @@ fn step_of(octets: u64) -> u64 {
     octets
 }
 
-/// Adds the scale, down to an end: each line whose place the stream has.
-pub(crate) fn add_scale(out: &mut Vec<Shape>, end: u128, octets: u64) -> Result<(), AllocError>
-    ensures { OnOk result (told out.new.items ≡ told out.old.items) }
+/// Adds the scale, down to an end: of ten lines, so far from each other, each whose place the
+/// stream has.
+pub(crate) fn add_scale(
+    out: &mut Vec<Shape>,
+    end: u128,
+    octets: u64,
+    step: u64,
+) -> Result<(), AllocError>
+    requires { end ≤ 2 ^ 80 }
+    ensures { OnOk result (shown out.new.items
+        ≡ shown out.old.items ++ scale_told end octets step 10) }
 {
-    let step = step_of(octets);
     for number in 0..10 {
-        let place = u128::from(step.saturating_mul(number));
-        if place <= u128::from(octets) {
-            add_tick(out, end, octets, place)?;
-        }
+        add_line(out, end, octets, step.saturating_mul(number))?;
     }
     Ok(())
 }
 
-// Adds the line of a place, which tells nothing.
-fn add_tick(out: &mut Vec<Shape>, end: u128, octets: u64, place: u128) -> Result<(), AllocError>
-    requires { place ≤ 2 ^ 64 }
-    ensures { OnOk result (told out.new.items ≡ told out.old.items) }
+// Adds the line of a place, if the stream has it, and the place above it and at its foot.
+fn add_line(out: &mut Vec<Shape>, end: u128, octets: u64, place: u64) -> Result<(), AllocError>
+    requires { end ≤ 2 ^ 80 }
+    ensures { OnOk result (shown out.new.items
+        ≡ shown out.old.items ++ line_told end octets place) }
 {
-    let foot = end.saturating_add(14);
-    add(out, Shape::Tick(mark_x(octets, place), end, foot, place))
+    if octets < place {
+        return Ok(());
+    }
+    let x = mark_x(octets, u128::from(place));
+    add(out, Shape::Line(x, 126, x, end, "line"))?;
+    add_number(out, x, 120, "scale", place)?;
+    add_number(out, x, end + 14, "scale", place)
 }

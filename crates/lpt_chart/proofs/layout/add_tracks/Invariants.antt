@@ -1,6 +1,7 @@
 use Rattle.std.proofs.Common.{◌≡◌, ◌++◌, take}
 use Rattle.std.specs.List.{flat_map}
-use Rattle.lpt_chart.specs.Telling.{bar_told, tellings}
+use Rattle.lpt_chart.specs.Telling.{bar_told}
+use Rattle.lpt_shapes.specs.Shapes.{tellings}
 use Rattle.lpt_chart.proofs.layout.add_tracks.Given as goal
 
 abbrev pub invariant-loop-bar : goal.invariant-loop-bar

@@ -1,0 +1,4 @@
+pub mod EscapeLemmas
+pub mod ShapeTags
+pub mod TagLemmas
+pub mod ToldLemmas
