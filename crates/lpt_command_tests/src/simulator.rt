@@ -184,7 +184,7 @@ static CHART: [Case; 5] = [
         words: "chart -",
         input: UNREADABLE,
         status: 2,
-        output: Printed::Having(&["<title>A run</title>", "clock 3 (3 ticks)", "</svg>\n"]),
+        output: Printed::Having(&["<title>A run</title>", "clock 3: 3 ticks", "</svg>\n"]),
         errors: "lpt: standard input:2:1: there is no such command: tock\n",
         ..NOTHING
     },
