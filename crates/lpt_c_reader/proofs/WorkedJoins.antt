@@ -1,5 +1,6 @@
 -- A reader that joins messages is fed a packet that carries no part, and comes to its end.
 use Rattle.std.proofs.Common.{◌≡◌, ◌∙◌, ap, sym, subst, refl, inl, inr, ℕ, ◌==◌, Bool, true, false, cond, if◌then◌else◌, List, [], ◌∷◌, ◌++◌, Option, Some, None, Ok, Err, append-nil}
+use Rattle.std.specs.Prelude.{◌%◌, ◌||◌, length, nat_lt, not}
 use Rattle.std.specs.BTreeMap.{is_at}
 use Rattle.std.specs.List.{flat_map}
 use Rattle.std.specs.Map.{keys_of, lookup}
@@ -24,10 +25,11 @@ use Rattle.lpt_layout_each.specs.News.{Event}
 use Rattle.lpt_layout_each.specs.Streams.{left_of}
 use Rattle.lpt_layout_each.specs.declared.course.CourseAs.{CourseAs}
 use Rattle.lpt_layout_join.proofs.NameLemmas.{name_tied}
-use Rattle.lpt_layout_join.specs.Counts.{Counted, count_of, count_seen, counted_by, packet_counted}
+use Rattle.lpt_layout_join.specs.Counts.{Counted, count_of, counted_by, is_own, packet_counted}
 use Rattle.lpt_layout_join.specs.CountsInside.{counts_shown}
 use Rattle.lpt_layout_join.specs.Names.{name_cmp}
 use Rattle.lpt_packet.specs.Checksums.{checksum, octets_in, shift_all}
+use Rattle.lpt_packet.specs.Numbers.{word_at}
 use Rattle.lpt_packet.specs.Packets.{packet_seen, spelling, verdict}
 use Rattle.lpt_packet.specs.declared.direction.Direction.TheVariants.{Down}
 use Rattle.lpt_reader.specs.Readers.{state_of}
@@ -81,7 +83,8 @@ counts-same : (r : Reading) (k : Counted) (b : List ℕ)
     → k ≡ packet_counted r k b
 unfolding count_of
 counts-same r k b has =
-    sym (ap (λ (t : Bool). counted_by k (if t then None else count_seen r (verdict_as t b)) b) has)
+    sym (ap (λ (t : Bool). counted_by k (if t || nat_lt (length b) 7 || not (is_own r b) then None
+    else Some (word_at b 2 % 16384)) b) has)
 
 -- so nothing is joined
 takes-first : (j : Joins)

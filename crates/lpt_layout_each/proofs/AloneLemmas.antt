@@ -11,7 +11,7 @@ use Rattle.lpt_layout_join.specs.declared.ending.MisfitAs.TheVariants.{Unsure}
 use Rattle.lpt_layout_join.specs.declared.order.Order.{Order}
 use Rattle.lpt_layout_join.specs.Came.{Came, last_of, message_of, nothing_came}
 use Rattle.lpt_layout_join.specs.CameInside.{Shows}
-use Rattle.lpt_layout_join.specs.Orders.{is_in_order, no_order, order_after, with_next}
+use Rattle.lpt_layout_join.specs.Orders.{is_in_order, no_order, order_after, with_again, with_first, with_next}
 use Rattle.lpt_layout_join.specs.Writes.{misfit, unfit}
 use Rattle.lpt_layout_each.specs.declared.course.CourseAs.{CourseAs}
 use Rattle.lpt_layout_each.specs.declared.news.NewsAs.{NewsAs}
@@ -54,7 +54,7 @@ module _ (now : ℕ) (q : Piece) where
         ∙ ap (λ (n : ℕ). if nat_le n 1
         then run_by (order_after no_order n now) (more nothing_came q)
         else Goes no_run) one
-        ∙ ap (λ (d : Came). run_by (record { count = 1; missing = now; few = true }) (more d q))
+        ∙ ap (λ (d : Came). run_by (with_first now) (more d q))
         (sym (none zero))
         ∙ sym (ap (λ (n : ℕ). run_by (order_after o n now) (more c q)) one)
     go false is h =
@@ -74,8 +74,8 @@ ordered-some o n now least h =
           → nat_lt o.count n ≡ b
           → (n == o.count + 1) ≡ d
           → (if a then o.count == 0 else nat_le n (o.count + 1)) ≡ true
-          → 1 ≤ (if a then record { count = 1; missing = now; few = true }
-          else if b then (if d then with_next o n now else no_order) else o).count
+          → 1 ≤ (if a then with_first now
+          else if b then (if d then with_next o n now else no_order) else with_again o).count
       go true b d x y z h = omega arith
       go false true true x y z h = least
       go false true false x y z h =

@@ -11,7 +11,7 @@ use Rattle.lpt_part.specs.Parts.{Piece, same_kind}
 use Rattle.lpt_layout_join.specs.declared.last_part.LastPart.{LastPart}
 use Rattle.lpt_layout_join.specs.declared.order.Order.{Order}
 use Rattle.lpt_layout_join.specs.Came.{Came, contradicts, joined_by, last_by, last_of, last_told, message_of, octets_joined, octets_of}
-use Rattle.lpt_layout_join.specs.Orders.{no_order, order_after, with_next}
+use Rattle.lpt_layout_join.specs.Orders.{no_order, order_after, with_again, with_first, with_next}
 use Rattle.lpt_layout_join.proofs.CameLemmas.{first_told-more, octets-more}
 use Rattle.lpt_layout_each.specs.Eaches.{Ends, Goes, Run, RunTurn, more, no_run, run_before, run_by, run_joined, run_turn}
 use Rattle.lpt_layout_each.proofs.PartLemmas.{joined-some, message-last, only, only-is, only-more}
@@ -46,8 +46,8 @@ order-cases o n now k some h =
       by : (a b c : Bool)
           → (n == 1) ≡ a
           → (n == o.count + 1) ≡ c
-          → k ≤ (if a then record { count = 1; missing = now; few = true }
-          else if b then (if c then with_next o n now else no_order) else o).count
+          → k ≤ (if a then with_first now
+          else if b then (if c then with_next o n now else no_order) else with_again o).count
           → (k ≡ n) ⊎ (k ≤ o.count)
       by true b c one next within =
           let is = true_eq n 1 one in

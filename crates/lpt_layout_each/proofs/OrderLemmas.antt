@@ -13,7 +13,7 @@ use Rattle.lpt_carried.specs.Carried.{part_carried, part_of}
 use Rattle.lpt_layout_join.specs.declared.ending.MisfitAs.{MisfitAs}
 use Rattle.lpt_layout_join.specs.declared.order.Order.{Order}
 use Rattle.lpt_layout_join.specs.Counts.{Counted, all_counted, nothing_counted, packet_counted}
-use Rattle.lpt_layout_join.specs.Orders.{no_order, order_after, with_next}
+use Rattle.lpt_layout_join.specs.Orders.{no_order, order_after, with_again, with_first, with_next}
 use Rattle.lpt_layout_join.specs.Writes.{unfit}
 use Rattle.lpt_layout_each.specs.Eaches.{Course, Ends, Gives, GivesUp, Goes, Held, Run, Turn, Waits, after, after_all, all_turn, alone, are_own, counts_of, course_held, end_by, end_run, gather, gave_before, go_on, held_from, is_given, is_old, is_same, news, news_left, news_listed, missing_at, more, new_turn, news_from, no_run, nothing, repeats, run_before, run_by, run_joined, run_turn, spells, step, step_by, step_of, told_in_order, turn, turn_fit, turn_joined}
 use Rattle.lpt_layout_each.specs.Laws.{Continues, InOrder, Runs, higher}
@@ -109,10 +109,6 @@ gave-next gave last ms w (inl e) (inl v) = inl (λ i. e i || v.0 i)
 gave-next gave last ms w (inr u) (inl v) =
     inr (u.0, u.1, u.2, ap (λ ns. ms ++ ns) v.1 ∙ append-nil ms ∙ u.3, v.2 ∙ u.4, u.5)
 gave-next gave last ms w g (inr v) = inr (ms, v.0, v.1, ap (λ ns. ms ++ ns) v.2, v.3, v.4)
-
--- the first part
-abbrev with_first : (now : ℕ) → Order
-with_first now = record { count = 1; missing = now; few = true }
 
 module _ (r : Reading) (any : Bool) (n : Name) where
   -- what is told of a packet, behind so many counts
@@ -257,10 +253,11 @@ module _ (r : Reading) (any : Bool) (n : Name) where
   ordered-count o i now some next =
       ap (λ (b : Bool). (if b then with_first now
       else if nat_lt o.count i then (if i == o.count + 1 then with_next o i now else no_order)
-      else o).count) (eq_false i 1 (λ e. omega (arith, e, some)))
+      else with_again o).count) (eq_false i 1 (λ e. omega (arith, e, some)))
       ∙ behind (nat_lt o.count i) refl where
         behind : (b : Bool) → nat_lt o.count i ≡ b
-            → (if b then (if i == o.count + 1 then with_next o i now else no_order) else o).count
+            → (if b then (if i == o.count + 1 then with_next o i now else no_order)
+            else with_again o).count
             ≡ (if b then i else o.count)
         behind false e = refl
         behind true e =

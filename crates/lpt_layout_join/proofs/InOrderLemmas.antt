@@ -1,6 +1,6 @@
 -- Parts that came in their order stand so in the stream.
 use Rattle.std.proofs.Common.{◌≡◌, ◌≢◌, ◌∙◌, ap, sym, subst, refl, inl, inr, ℕ, zero, suc, ◌+◌, ◌≤◌, ◌==◌, ◌&&◌, nat_lt, Bool, true, false, if◌then◌else◌, List, [], ◌∷◌, ◌++◌, append-nil, append_assoc, arith}
-use Rattle.std.specs.Prelude.{Option, Some, None, bytes_eq, ◌||◌}
+use Rattle.std.specs.Prelude.{Option, Some, None, bytes_eq, ◌⊎◌, ◌||◌}
 use Rattle.std.specs.Option.{option_or}
 use Rattle.std.specs.List.{AllByRecursion}
 use Rattle.std.proofs.lemmas.Bool.{eqb-true, eqb-false}
@@ -15,8 +15,8 @@ use Rattle.lpt_carried.specs.declared.reading.Reading.{Reading}
 use Rattle.lpt_layout_join.specs.Came.{contradicts, highest, last_of, octets_of, other_end, other_octets, other_size, size_of}
 use Rattle.lpt_carried.specs.Carried.{part_carried, part_of}
 use Rattle.lpt_layout_join.specs.Counts.{all_counted, missing_in, nothing_counted}
-use Rattle.lpt_layout_join.specs.InOrder.{Carries, IsBetween, Stands}
-use Rattle.lpt_layout_join.specs.Orders.{are_few, is_in_order, no_order, order_after, with_next}
+use Rattle.lpt_layout_join.specs.InOrder.{Carries, IsBetween, IsOther, Stands}
+use Rattle.lpt_layout_join.specs.Orders.{are_few, is_in_order, no_order, order_after, with_again, with_first, with_next}
 use Rattle.lpt_layout_join.proofs.CameLemmas.{octets-more}
 use Rattle.lpt_layout_join.proofs.CountLemmas.{few-are, missing-is}
 use Rattle.lpt_layout_join.proofs.PartsLemmas.{octets-kept}
@@ -84,9 +84,11 @@ module _ (r : Reading) (n : Name) where
       octets_are = octets-kept ps q (suc k) h.6.part.octets h.6.octets_are;
     },
     h.7,
+    h.8,
   )
 
-  -- these parts came in this order, and behind the last of them none but one of them again
+  -- these parts came in this order, and behind the last of them none but one of them again: then
+  -- there is room for fewer than 2
   pub record Comes (bs : List (List ℕ)) (o : Order) (ps : List Piece) : Type 0 where
     pub front : List (List ℕ)
     pub between : List (List ℕ)
@@ -94,6 +96,8 @@ module _ (r : Reading) (n : Name) where
     pub stand : Stands r n ps o.count front
     pub behind : AllByRecursion (IsBetween r n o.count) between
     pub up_to : o.missing ≡ (all_counted r nothing_counted front).missing
+    pub room_is : o.room ≤ o.count
+    pub narrow : AllByRecursion (IsOther r n) between ⊎ (o.room ≤ 2)
 
   abbrev pub CameSo : List (List ℕ) → Order → List Piece → Type 0
   CameSo bs o ps = o.few ≡ true → 1 ≤ o.count → Comes bs o ps
@@ -116,6 +120,11 @@ module _ (r : Reading) (n : Name) where
         stand = c.stand;
         behind = all-more (IsBetween r n o.count) c.between b c.behind (inl none);
         up_to = c.up_to;
+        room_is = c.room_is;
+        narrow = elim c.narrow [
+          | inl v ↦ inl (all-more (IsOther r n) c.between b v none)
+          | inr v ↦ inr v
+        ];
       }
 
   module _ (bs : List (List ℕ)) (b : List ℕ) (ps : List Piece) (q : Piece)
@@ -137,7 +146,7 @@ module _ (r : Reading) (n : Name) where
 
     -- one that begins
     first : q.number ≡ 1
-        → CameSo (bs ++ b ∷ []) (record { count = 1; missing = now; few = true }) qs
+        → CameSo (bs ++ b ∷ []) (with_first now) qs
     first e few some' = record {
       front = bs ++ b ∷ [];
       between = [];
@@ -151,9 +160,12 @@ module _ (r : Reading) (n : Name) where
         tt,
         carries 1 e,
         λ below. absurd (omega (arith, below)),
+        inl tt,
       );
       behind = tt;
       up_to = refl;
+      room_is = omega arith;
+      narrow = inl tt;
     }
 
     -- the next
@@ -163,11 +175,12 @@ module _ (r : Reading) (n : Name) where
         → q.number ≡ o.count + 1
         → CameSo (bs ++ b ∷ []) (with_next o q.number now) qs
     next o h before e few some' =
-        let c = h (and_left o.few (are_few o.count o.missing now) few) before in
+        let c = h (and_left o.few (are_few o.room o.missing now) few) before in
         let fewer =
-        few-are o.count (missing_in r c.front) (missing_in r (bs ++ b ∷ [])) o.missing now
+        few-are o.room (missing_in r c.front) (missing_in r (bs ++ b ∷ [])) o.missing now
         (c.up_to ∙ missing-is r c.front) (missing-is r (bs ++ b ∷ []))
-        (and_right o.few (are_few o.count o.missing now) few) in
+        (and_right o.few (are_few o.room o.missing now) few) in
+        let room = c.room_is in
         let k : suc o.count ≡ q.number = omega (arith, e) in
         record {
           front = bs ++ b ∷ [];
@@ -181,10 +194,16 @@ module _ (r : Reading) (n : Name) where
             stands-kept ps q o.count c.front c.stand,
             c.behind,
             carries (suc o.count) (sym k),
-            λ _. fewer,
+            λ _. omega (arith, fewer, room),
+            elim c.narrow [
+              | inl v ↦ inl v
+              | inr v ↦ inr (omega (arith, fewer, v))
+            ],
           );
           behind = tt;
           up_to = refl;
+          room_is = omega arith;
+          narrow = inl tt;
         }
 
     -- one of them again
@@ -192,9 +211,10 @@ module _ (r : Reading) (n : Name) where
         → CameSo bs o ps
         → q.number ≢ 1
         → q.number ≤ o.count
-        → CameSo (bs ++ b ∷ []) o qs
+        → CameSo (bs ++ b ∷ []) (with_again o) qs
     again o h other within few some' =
         let c = h few some' in
+        let room = c.room_is in
         record {
           front = c.front;
           between = c.between ++ b ∷ [];
@@ -204,6 +224,8 @@ module _ (r : Reading) (n : Name) where
           behind = all-more (IsBetween r n o.count) c.between b c.behind
               (inr (q, is, other, within));
           up_to = c.up_to;
+          room_is = omega (arith, room);
+          narrow = inr (omega arith);
         }
 
     -- a packet more that carries a part of the name which agrees
@@ -215,7 +237,8 @@ module _ (r : Reading) (n : Name) where
           → nat_lt o.count q.number ≡ t
           → CameSo (bs ++ b ∷ [])
           (if t then
-          (if q.number == o.count + 1 then with_next o q.number now else no_order) else o) qs
+          (if q.number == o.count + 1 then with_next o q.number now else no_order)
+          else with_again o) qs
       past other false e = again o h (eqb-false q.number 1 other) (not_past o.count q.number e)
       past other true e = go (q.number == o.count + 1) refl where
         go : (t : Bool)
@@ -228,9 +251,10 @@ module _ (r : Reading) (n : Name) where
 
       one : (t : Bool)
           → (q.number == 1) ≡ t
-          → CameSo (bs ++ b ∷ []) (if t then record { count = 1; missing = now; few = true }
+          → CameSo (bs ++ b ∷ []) (if t then with_first now
           else if nat_lt o.count q.number
-          then (if q.number == o.count + 1 then with_next o q.number now else no_order) else o) qs
+          then (if q.number == o.count + 1 then with_next o q.number now else no_order)
+          else with_again o) qs
       one true e = first (eqb-true q.number 1 e)
       one false e = past e (nat_lt o.count q.number) refl
 

@@ -1,22 +1,27 @@
 -- How many sequence counts are missing among the packets of a stream.
-use Rattle.std.specs.Prelude.{ℕ, ◌+◌, ◌-◌, ◌%◌, ◌==◌, ◌||◌, if◌then◌else◌, List, [], ◌∷◌, length, Option, Some, None, Result, Ok, Err, bytes_eq}
+use Rattle.std.specs.Prelude.{ℕ, ◌+◌, ◌-◌, ◌/◌, ◌%◌, ◌==◌, ◌&&◌, ◌||◌, not, nat_lt, Bool, if◌then◌else◌, List, [], ◌∷◌, length, Option, Some, None, bytes_eq}
 use Rattle.lpt_stream.specs.Pieces.{up_to_limit}
-use Rattle.lpt_layout.specs.Packets.{verdict_as}
-use Rattle.lpt_packet.specs.declared.fault.PacketFault.{PacketFault}
-use Rattle.lpt_packet.specs.Packets.{Sight, IdlePacket, APacket}
+use Rattle.lpt_packet.specs.Numbers.{word_at}
+use Rattle.lpt_packet.specs.declared.direction.Direction.{Direction}
+use Rattle.lpt_packet.specs.declared.direction.Direction.TheVariants.{Up, Down}
 use Rattle.lpt_carried.specs.declared.reading.Reading.{Reading}
 
--- the sequence count of a packet of the APID
-abbrev pub count_seen : Reading → Result Sight PacketFault → Option ℕ
-count_seen r (Err e) = None
-count_seen r (Ok IdlePacket) = None
-count_seen r (Ok (APacket f)) = if f.apid == r.apid then Some f.count else None
+-- the packet type of what goes in a direction
+abbrev pub type_of : Direction → ℕ
+type_of Up = 1
+type_of Down = 0
 
--- the same of octets, if packets have no checksum; by another layout none is looked at
+-- whether a primary header is of the APID and of a packet that goes this way
+abbrev pub is_own : Reading → List ℕ → Bool
+is_own r b =
+    (word_at b 0 / 4096 % 2 == type_of r.direction) && (word_at b 0 % 2048 == r.apid)
+
+-- the sequence count of such a packet, whatever it carries, if packets have no checksum; by another
+-- layout none is looked at
 unfoldable pub count_of : Reading → List ℕ → Option ℕ
 count_of r b =
-    if r.layout.has_checksum then None
-    else count_seen r (verdict_as r.layout.has_checksum b)
+    if r.layout.has_checksum || nat_lt (length b) 7 || not (is_own r b) then None
+    else Some (word_at b 2 % 16384)
 
 -- the last packet of the APID that came, with its count; no octets if none came
 pub record Latest : Type 0 where

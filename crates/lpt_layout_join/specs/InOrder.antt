@@ -24,9 +24,14 @@ IsBetween r n k b =
     (part_of n (part_carried r b) ≡ None)
     ⊎ ((q : Piece) × (part_of n (part_carried r b) ≡ Some q) × (q.number ≢ 1) × (q.number ≤ k))
 
+-- a packet carries no part of the name
+abbrev pub IsOther : Reading → Name → List ℕ → Type 0
+IsOther r n b = part_of n (part_carried r b) ≡ None
+
 -- Parts 1 to k stand in these packets in their order, the last packet carries part k: between each
 -- of them and the next stands no part of the name but one of those before again; and up to part
--- i + 1 fewer than i counts more are missing than up to part i.
+-- i + 1 fewer than i counts more are missing than up to part i, and fewer than 2 if a part of the
+-- name stands between them.
 abbrev pub Stands : Reading → Name → List Piece → (k : ℕ) → List (List ℕ) → Type 0
 Stands r n parts zero bs = Unit {0}
 Stands r n parts (suc k) bs =
@@ -34,6 +39,7 @@ Stands r n parts (suc k) bs =
     × (bs ≡ front ++ between ++ b ∷ []) × Stands r n parts k front
     × AllByRecursion (IsBetween r n k) between × Carries r n parts (suc k) b
     × (1 ≤ k → missing_in r bs < missing_in r front + k)
+    × (AllByRecursion (IsOther r n) between ⊎ (missing_in r bs < missing_in r front + 2))
 
 -- all parts of which a message is joined stand so in a front part of these packets
 pub record IsInOrder (r : Reading) (n : Name) (bs : List (List ℕ)) (m : List ℕ) : Type 0 where

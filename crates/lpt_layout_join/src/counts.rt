@@ -1,14 +1,15 @@
 //! How many sequence counts are missing among the packets of a stream.
 
-ghost use Rattle.std.specs.Prelude.{◌≡◌, ◌≤◌, IfSome};
-ghost use Rattle.lpt_layout_join.specs.Counts.{count_of, gap_to, Latest};
+ghost use Rattle.std.specs.Prelude.{◌≡◌, ◌+◌, ◌<◌, ◌≤◌, length, IfSome};
+ghost use Rattle.lpt_packet.specs.Numbers.{word_at};
+ghost use Rattle.lpt_layout_join.specs.Counts.{count_of, gap_to, is_own, Latest, type_of};
 
 use lpt_carried::Reading;
-use lpt_layout::{SeenAs, read_packet_as};
+use lpt_packet::Direction;
 use std::alloc::{AllocError, Global};
 
-/// How many sequence counts of the APID are missing among the packets that came, by a layout
-/// without a checksum; by another one none are counted.
+/// How many sequence counts of the APID are missing among the packets that came in the direction,
+/// by a layout without a checksum; by another one none are counted.
 #[derive(Drop)]
 pub struct Counts {
     // The last packet of the APID, and its count; no octets if none came.
@@ -61,19 +62,43 @@ impl Counts {
     }
 }
 
-// The sequence count of a packet of the APID, if packets have no checksum.
+// The sequence count of a packet of the APID that goes this way, if packets have no checksum.
 #[tactic(auto, unfolding(crate::specs::Counts::count_of))]
 fn count_of(reading: &Reading, octets: &[u8]) -> Option<u16>
     ensures exact { result ≡ count_of reading.now octets.now }
     ensures small { IfSome result (λ n. n ≤ 16383) }
 {
-    if reading.layout.has_checksum {
+    if reading.layout.has_checksum || octets.len() < 7 || !is_own(reading, octets) {
         return None;
     }
-    match read_packet_as(&reading.layout, octets) {
-        Ok(SeenAs::Packet(packet)) if packet.apid == reading.apid => Some(packet.count),
-        _ => None,
+    Some(word(octets, 2) & 0x3fff)
+}
+
+// Whether a primary header is of the APID and of a packet that goes this way.
+fn is_own(reading: &Reading, octets: &[u8]) -> bool
+    requires { 7 ≤ length octets.now }
+    ensures { result ≡ is_own reading.now octets.now }
+{
+    let first = word(octets, 0);
+    (first >> 12) & 1 == type_of(reading.direction) && first & 0x07ff == reading.apid
+}
+
+// The packet type of what goes in a direction.
+fn type_of(direction: Direction) -> u16
+    ensures { result ≡ type_of direction }
+{
+    match direction {
+        Direction::Up => 1,
+        Direction::Down => 0,
     }
+}
+
+// The 16-bit number at a place.
+fn word(octets: &[u8], at: usize) -> u16
+    requires { at + 1 < length octets.now }
+    ensures { result ≡ word_at octets.now at }
+{
+    u16::from_be_bytes([octets[at], octets[at + 1]])
 }
 
 // How many counts lie between the last packet, of this count, and the next.

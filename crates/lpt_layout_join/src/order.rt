@@ -1,7 +1,7 @@
 //! The order in which the parts of a name come.
 
 ghost use Rattle.std.specs.Prelude.{◌≡◌};
-ghost use Rattle.lpt_layout_join.specs.Orders.{are_few, is_in_order, no_order, order_after};
+ghost use Rattle.lpt_layout_join.specs.Orders.{are_few, is_in_order, no_order, order_after, with_again};
 
 use crate::LastPart;
 
@@ -13,7 +13,10 @@ pub struct Order {
     pub count: u32,
     /// How many sequence counts were missing up to the last of them.
     pub missing: u64,
-    /// Whether between each of them and the next fewer are missing than its number.
+    /// Fewer than so many may be missing between it and the next: its number, and 2 once one of
+    /// these came again.
+    pub room: u32,
+    /// Whether between each of them and the next so few are missing.
     pub few: bool,
 }
 
@@ -25,6 +28,7 @@ impl Order {
         Order {
             count: 0,
             missing: 0,
+            room: 0,
             few: true,
         }
     }
@@ -37,11 +41,12 @@ impl Order {
             return Order {
                 count: 1,
                 missing,
+                room: 1,
                 few: true,
             };
         }
         if number <= self.count {
-            return self;
+            return self.again();
         }
         if number - 1 != self.count {
             return Order::none();
@@ -49,7 +54,19 @@ impl Order {
         Order {
             count: number,
             missing,
-            few: self.few && are_few(self.count, self.missing, missing),
+            room: number,
+            few: self.few && are_few(self.room, self.missing, missing),
+        }
+    }
+
+    // One of them came again. If that is of another message, the first part of that is missing, and
+    // so is the part behind the last one here.
+    fn again(self) -> Order
+        ensures { result ≡ with_again self }
+    {
+        Order {
+            room: self.room.min(2),
+            ..self
         }
     }
 
