@@ -9,8 +9,8 @@ use Rattle.lpt_events.specs.declared.outcome.Outcome.{Outcome}
 use Rattle.lpt_events.specs.declared.outcome.Outcome.TheVariants as outcome
 use Rattle.lpt_events.specs.declared.reply.Answer.{Answer}
 use Rattle.lpt_events.specs.declared.reply.Answer.TheVariants as answer
-use Rattle.lpt_chart.specs.Types.{Flight, Head, Mark, Refusal}
-use Rattle.lpt_chart.specs.declared.marks.Mark.TheVariants as mark
+use Rattle.lpt_chart.specs.Types.{Flight, Head, Refusal}
+use Rattle.lpt_chart.specs.Frames.{tells_ticks}
 use Rattle.lpt_chart.specs.Stories.{story}
 
 -- a delivery: its place in the journal, its lane, and what became of the packet
@@ -61,11 +61,6 @@ DrawsReleases journal refused =
 abbrev pub place_in : ℕ → Event → Answer → List ℕ
 place_in place (Tick side) a = []
 place_in place _ a = place ∷ []
-
--- whether a row tells of ticks
-abbrev pub tells_ticks : Mark → Bool
-tells_ticks (mark.Ticks side) = true
-tells_ticks _ = false
 
 -- the place that a row shows, unless it tells of ticks
 abbrev pub shown_place : Head → List ℕ

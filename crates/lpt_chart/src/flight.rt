@@ -9,8 +9,8 @@ use crate::frame::{Frame, half, holds, lane_x, middle_x, side_x, start_x, y_of};
 use crate::marks::{Held, Sent};
 use crate::shape::{add_bead, sign_at};
 use crate::style::{
-    CROSS, HEAD, IGNORED, IN_HAND, KEPT, LATE, NUMBER, OPEN_DOWN, OPEN_UP, RING, WAY, WAY_AGAIN,
-    WAY_NOISE, WHITE, way,
+    CROSS, HEAD, IGNORED, IN_HAND, KEPT, LATE, NOTED, NUMBER, OPEN_DOWN, OPEN_UP, RING, WAY,
+    WAY_AGAIN, WAY_NOISE, WHITE, way,
 };
 use lpt_events::{Lane, Outcome, Side};
 use lpt_packet::{Direction, Octets};
@@ -67,7 +67,9 @@ fn tip(frame: Frame, direction: Direction, to: u32, number: u64, outcome: Outcom
 fn bead_look(direction: Direction, outcome: Outcome) -> (u8, &'static str, &'static str) {
     let (kept, white) = (way(KEPT, direction), way(WHITE, direction));
     match outcome {
-        Outcome::ReportNoted(_, _) | Outcome::AbortNoted(_, _) => (0, kept, white),
+        Outcome::ReportNoted(_, _) | Outcome::AbortNoted(_, _) => {
+            (0, way(NOTED, direction), white)
+        }
         Outcome::Again(_, _) | Outcome::Ignored(_) => {
             (7, way(IGNORED, direction), way(NUMBER, direction))
         }

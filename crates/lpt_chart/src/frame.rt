@@ -1,9 +1,9 @@
 //! Which rows are drawn, and where things stand in a picture, in whole pixels.
 
-ghost use Rattle.std.specs.Prelude.{◌≡◌, ◌+◌, ◌<◌, ◌≤◌, ◌^◌, length, nat_le, nat_lt, position};
-ghost use Rattle.lpt_chart.specs.Frames.{IsFrame, column_x, height_of, hidden_above, lane_x, row_end, shows, side_x, start_x, words_x, y_of};
+ghost use Rattle.std.specs.Prelude.{◌≡◌, ◌+◌, ◌<◌, ◌≤◌, ◌^◌, length, nat_le, nat_lt, position, true};
+ghost use Rattle.lpt_chart.specs.Frames.{IsFrame, chosen_end, column_x, first_row, height_of, hidden_above, is_of, is_of_ticks, lands, lane_x, row_end, rows_before, shows, side_x, start_x, tells_ticks, words_x, y_of};
 
-use crate::marks::{Choice, Row};
+use crate::marks::{Choice, Mark, Row};
 use crate::picture::{Picture, is_side};
 use crate::title::title_wide;
 use crate::tracks::Bar;
@@ -40,22 +40,92 @@ fn found_behind(place: u64, rows: &[Row]) -> Option<usize>
     rows.iter().position(|row| place < row.head.place)
 }
 
-/// How many rows above are left out: those of an earlier place.
+// How many rows there are of an earlier place.
+fn rows_before(place: u64, rows: &[Row]) -> usize
+    ensures value { result ≡ rows_before place rows.now }
+    ensures within { result ≤ length rows.now }
+{
+    match found_from(place, rows) {
+        Some(at) => at,
+        None => rows.len(),
+    }
+}
+
+// Whether a row tells of ticks.
+fn tells_ticks(mark: Mark) -> bool
+    ensures { result ≡ tells_ticks mark }
+{
+    matches!(mark, Mark::Ticks(_))
+}
+
+// Whether a row, if there is one there, is of this place.
+fn is_of(place: u64, at: usize, rows: &[Row]) -> bool
+    ensures { result ≡ is_of place at rows.now }
+{
+    match rows.get(at) {
+        Some(row) => row.head.place == place,
+        None => false,
+    }
+}
+
+// Whether it tells of ticks.
+fn is_of_ticks(at: usize, rows: &[Row]) -> bool
+    ensures { result ≡ is_of_ticks at rows.now }
+{
+    match rows.get(at) {
+        Some(row) => tells_ticks(row.head.mark),
+        None => false,
+    }
+}
+
+// The first row that tells of an event of this place or a later one: a row of ticks tells of all
+// events up to the place of the next row.
+fn first_row(place: u64, rows: &[Row]) -> usize
+    ensures { result ≡ first_row place rows.now }
+{
+    let at = rows_before(place, rows);
+    let before = at.saturating_sub(1);
+    if is_of(place, at, rows) {
+        at
+    } else if is_of_ticks(before, rows) {
+        before
+    } else {
+        at
+    }
+}
+
+/// How many rows above are left out.
 pub(crate) fn hidden_above(choice: Choice, rows: &[Row]) -> usize
     ensures { result ≡ hidden_above choice rows.now }
 {
     match choice.from {
-        Some(place) => match found_from(place, rows) {
-            Some(at) => at,
-            None => rows.len(),
-        },
+        Some(place) => first_row(place, rows),
         None => 0,
     }
 }
 
-/// How many rows there are up to the last that is drawn.
+// Whether a row stands right below the one before it: a delivery, below its lane's take.
+fn lands(at: usize, rows: &[Row]) -> bool
+    ensures value { result ≡ lands at rows.now }
+    ensures there { result ≡ true → at < length rows.now }
+{
+    match (rows.get(at), rows.get(at.saturating_sub(1))) {
+        (Some(row), Some(before)) => row.head.at.saturating_sub(before.head.at) == 1,
+        _ => false,
+    }
+}
+
+/// How many rows there are up to the last that is drawn: with a take also its delivery is.
 pub(crate) fn row_end(choice: Choice, rows: &[Row]) -> usize
     ensures { result ≡ row_end choice rows.now }
+{
+    let end = chosen_end(choice, rows);
+    if lands(end, rows) { end + 1 } else { end }
+}
+
+// How many rows are chosen from the first on.
+fn chosen_end(choice: Choice, rows: &[Row]) -> usize
+    ensures { result ≡ chosen_end choice rows.now }
 {
     match (choice.to, choice.from) {
         (Some(place), _) => match found_behind(place, rows) {

@@ -6,99 +6,67 @@ ghost use Rattle.lpt_shapes.specs.Shapes.{tellings};
 use crate::frame::y_of;
 use crate::shape::{add_letters, bead_box, sign_at};
 use crate::style::{
-    Both, CLAIMED, COMMITTED, CROSS, EXPIRED, FINISHED, IGNORED, IN_HAND, KEPT, LATE, NOISE,
-    OPEN_UP, OPENED, PUT, RECEPTION, REFUSED, RESTARTED, RETIRED, RING, SENDER, Sign, TICK, WAITS,
-    WAY, WAY_AGAIN, WAY_NOISE, way,
+    Both, CLAIMED, COMMITTED, CROSS, DOWNWARD, EXPIRED, FAILED, FINISHED, IGNORED, IN_HAND, KEPT,
+    LATE, NOISE, NOTED, OPEN_DOWN, OPEN_UP, OPENED, PUT, RECEPTION, REFUSED, RESTARTED, RETIRED,
+    RING, SENDER, STALE, Sign, TICK, UPWARD, WAITS, WAY_AGAIN, WAY_NOISE, way,
 };
 use lpt_packet::Direction;
 use lpt_shapes::{Shape, draw};
 use std::alloc::{AllocError, Global};
 
 /// What is drawn in front of a key's words: a way, a bead so round, a piece of a track of half this
-/// width, or a sign.
+/// width, or a sign, so far from the left edge.
 #[derive(Clone, Copy)]
 pub(crate) enum Sample {
     Way,
     Bead(u8),
     Piece(u8),
-    Sign(&'static str),
+    Sign(u8, &'static str),
 }
 
 /// A sample, how it looks, and what it is.
 pub(crate) type Key = (Sample, &'static str, &'static str);
 
-/// What the legend can explain: packets on the link, what becomes of them, and what is open.
-const KEYS: [(Sample, Direction, Both, &str); 17] = [
-    (Sample::Way, Direction::Up, WAY, "packet up"),
-    (Sample::Way, Direction::Down, WAY, "packet down"),
-    (Sample::Way, Direction::Up, WAY_AGAIN, "taken once more"),
-    (Sample::Way, Direction::Up, WAY_NOISE, "what noise left"),
-    (Sample::Way, Direction::Up, IN_HAND, "in a lane's hand"),
-    (
-        Sample::Way,
-        Direction::Up,
-        LATE,
-        "lost after a lane took it",
-    ),
-    (
-        Sample::Bead(7),
-        Direction::Up,
-        PUT,
-        "packet put on the link",
-    ),
-    (Sample::Bead(0), Direction::Up, NOISE, "noise on the link"),
-    (
-        Sample::Bead(7),
-        Direction::Up,
-        KEPT,
-        "part kept or request released",
-    ),
-    (Sample::Bead(0), Direction::Down, KEPT, "report noted"),
-    (
-        Sample::Bead(7),
-        Direction::Up,
-        IGNORED,
-        "kept before, or ignored",
-    ),
-    (Sample::Bead(10), Direction::Up, RING, "message released"),
-    (Sample::Piece(2), Direction::Up, SENDER, "open sender"),
+/// What the legend can explain: packets on the link, what becomes of them, and what is open; up or
+/// down.
+const KEYS: [(Sample, Both, &str); 17] = [
+    (Sample::Way, UPWARD, "packet up"),
+    (Sample::Way, DOWNWARD, "packet down"),
+    (Sample::Way, WAY_AGAIN, "taken once more"),
+    (Sample::Way, WAY_NOISE, "what noise left"),
+    (Sample::Way, IN_HAND, "in a lane's hand"),
+    (Sample::Way, LATE, "lost after a lane took it"),
+    (Sample::Bead(7), PUT, "packet put on the link"),
+    (Sample::Bead(0), NOISE, "noise on the link"),
+    (Sample::Bead(7), KEPT, "part kept or request released"),
+    (Sample::Bead(0), NOTED, "report noted"),
+    (Sample::Bead(7), IGNORED, "kept before, or ignored"),
+    (Sample::Bead(10), RING, "message released"),
+    (Sample::Piece(2), SENDER, "open sender"),
     (
         Sample::Piece(3),
-        Direction::Up,
         RECEPTION,
         "reception, the wider the fuller",
     ),
-    (
-        Sample::Piece(2),
-        Direction::Up,
-        WAITS,
-        "job released, waits",
-    ),
-    (
-        Sample::Piece(4),
-        Direction::Up,
-        CLAIMED,
-        "job claimed by a worker",
-    ),
-    (
-        Sample::Piece(4),
-        Direction::Up,
-        COMMITTED,
-        "reading of the job committed",
-    ),
+    (Sample::Piece(2), WAITS, "job released, waits"),
+    (Sample::Piece(4), CLAIMED, "job claimed by a worker"),
+    (Sample::Piece(4), COMMITTED, "reading of the job committed"),
 ];
 
-/// The signs that it can explain.
-const SIGNS: [(Sign, &str); 9] = [
-    (OPEN_UP, "stays on the link"),
-    (CROSS, "lost"),
-    (EXPIRED, "reception expired"),
-    (RETIRED, "identifier free at both ends"),
-    (OPENED, "message opened; no request"),
-    (FINISHED, "sender finished; job executed"),
-    (TICK, "a clock goes on"),
-    (RESTARTED, "node starts anew"),
-    (REFUSED, "line refused"),
+/// The signs that it can explain, and how far from the left edge they begin.
+const SIGNS: [(u8, Sign, &str); 12] = [
+    (2, OPEN_UP, "stays on the link"),
+    (36, OPEN_DOWN, "stays on the link, down"),
+    (18, CROSS, "lost"),
+    (18, EXPIRED, "reception expired"),
+    (18, RETIRED, "identifier free at both ends"),
+    (18, OPENED, "message opened; no request"),
+    (18, FINISHED, "sender finished; job executed"),
+    (18, FAILED, "job failed"),
+    (18, STALE, "reading from before a restart"),
+    (18, TICK, "a clock goes on"),
+    (18, RESTARTED, "node starts anew"),
+    (18, REFUSED, "line refused"),
 ];
 
 // Whether a shape is one that looks so.
@@ -117,18 +85,29 @@ fn is_used(shapes: &[Shape], look: &str) -> bool {
     shapes.iter().any(|shape| looks(shape, look))
 }
 
+// The one of these looks that some shape has: that of what goes up, or else of what goes down.
+fn used_look(shapes: &[Shape], either: Both) -> Option<&'static str> {
+    let (up, down) = (way(either, Direction::Up), way(either, Direction::Down));
+    if is_used(shapes, up) {
+        Some(up)
+    } else if is_used(shapes, down) {
+        Some(down)
+    } else {
+        None
+    }
+}
+
 /// The keys of which some shape has the look.
 pub(crate) fn used_keys(alloc: Global, shapes: &[Shape]) -> Result<Vec<Key>, AllocError> {
     let mut used = Vec::new(alloc);
-    for (sample, direction, looks, words) in KEYS {
-        let look = way(looks, direction);
-        if is_used(shapes, look) {
+    for (sample, either, words) in KEYS {
+        if let Some(look) = used_look(shapes, either) {
             used.push((sample, look, words))?;
         }
     }
-    for ((steps, look), words) in SIGNS {
+    for (left, (steps, look), words) in SIGNS {
         if is_used(shapes, look) {
-            used.push((Sample::Sign(steps), look, words))?;
+            used.push((Sample::Sign(left, steps), look, words))?;
         }
     }
     Ok(used)
@@ -153,7 +132,7 @@ fn add_sample(
             let (from, wide) = (x.saturating_sub(u128::from(half)), 2 * u128::from(half));
             draw(out, Shape::Box(from, y - 7, wide, 14, 0, look))
         }
-        Sample::Sign(steps) => draw(out, sign_at(x, at, (steps, look))),
+        Sample::Sign(from, steps) => draw(out, sign_at(left + u128::from(from), at, (steps, look))),
     }
 }
 

@@ -12,6 +12,11 @@ pub(crate) type Both = [&'static str; 2];
 /// Ways of packets: as they are put, what noise left, what a lane took before, and in its hand.
 pub(crate) const WAY: Both = ["up", "down"];
 
+/// The same of one direction alone.
+pub(crate) const UPWARD: Both = ["up", "up"];
+
+pub(crate) const DOWNWARD: Both = ["down", "down"];
+
 pub(crate) const WAY_NOISE: Both = ["dots up", "dots down"];
 
 pub(crate) const WAY_AGAIN: Both = ["again up", "again down"];
@@ -27,6 +32,8 @@ pub(crate) const PUT: Both = ["put up", "put down"];
 pub(crate) const NOISE: Both = ["put dots up", "put dots down"];
 
 pub(crate) const KEPT: Both = ["kept up", "kept down"];
+
+pub(crate) const NOTED: Both = ["noted kept up", "noted kept down"];
 
 pub(crate) const IGNORED: Both = ["put again up", "put again down"];
 

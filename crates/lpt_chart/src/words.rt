@@ -10,7 +10,7 @@ use crate::style::{
 };
 use crate::tracks::{Stage, Thing};
 use lpt_events::{Answer, Applied, Event, Lane, Outcome, Reply, Side, name_word};
-use lpt_packet::{Direction, Octets};
+use lpt_packet::{Direction, Octets, Seen, read_packet};
 use lpt_pus::FailureCode;
 use lpt_script_text::write_accepted;
 use std::alloc::{AllocError, Global};
@@ -60,7 +60,19 @@ fn kind_word(service: u8, subtype: u8) -> &'static str {
 pub(crate) fn kind_words(alloc: Global, what: &str, kind: Kind) -> Result<String, AllocError> {
     let Kind { service, subtype } = kind;
     let word = kind_word(service, subtype);
-    format!(in alloc; "{what}{service},{subtype} {word}")
+    if word.is_empty() {
+        format!(in alloc; "{what}{service},{subtype}")
+    } else {
+        format!(in alloc; "{what}{service},{subtype} {word}")
+    }
+}
+
+// The type of a message that is opened, if it is a packet.
+fn opened_words(alloc: Global, message: &[u8]) -> Result<String, AllocError> {
+    match read_packet(message) {
+        Ok(Seen::Packet(_)) => kind_words(alloc, "", Kind::of(message)),
+        _ => Ok(String::new(alloc)),
+    }
 }
 
 /// A refused line: its fault, its number, and the line.
@@ -142,10 +154,7 @@ impl Picture {
     ) -> Result<String, AllocError> {
         let (alloc, jobs) = (self.alloc(), self.jobs);
         match (event, answer) {
-            (Event::Open(_, _, message), _) => {
-                let kind = Kind::of(message.as_slice());
-                kind_words(alloc, "", kind)
-            }
+            (Event::Open(_, _, message), _) => opened_words(alloc, message.as_slice()),
             (Event::Send(direction, name, part), _) => {
                 let (way, name) = (direction.word(), name_word(self.known.source, *name));
                 let part = share_words(alloc, *part, share.1)?;

@@ -18,14 +18,14 @@ pub picture-tagged : (v : View) (source : ℕ) (s : Seen) (text : List ℕ)
     → IsPicture v source s text
     → Tagged text
 picture-tagged v source s text k =
-    let head = opening_text 1040 k.high SHEET.now TITLE.now SHOWN.now in
+    let head = opening_text 1120 k.high SHEET.now TITLE.now SHOWN.now in
     let shapes = flat_map shape_text k.shapes in
     let marks = flat_map (text_of s.rows s.octets) s.marks in
     subst Tagged (sym k.written)
     (tagged-append ((head ++ shapes) ++ marks) (codes "</svg>" ++ 10 ∷ [])
     (tagged-append (head ++ shapes) marks
     (tagged-append head shapes
-    (opening-tagged 1040 k.high SHEET.now TITLE.now SHOWN.now refl)
+    (opening-tagged 1120 k.high SHEET.now TITLE.now SHOWN.now refl)
     (shapes-tagged k.shapes))
     (all-tagged (text_of s.rows s.octets) s.marks
     (λ (m : Mark). mark-tagged (mark_x s.octets m.place) (mark_y s.rows m)

@@ -125,6 +125,6 @@ pub record IsPicture (v : View) (source : ℕ) (s : Seen) (text : List ℕ) : Ty
   pub shapes : List Shape
   pub tells : shown shapes ≡ picture_told v source step s
   pub written : text
-      ≡ opening_text 1040 high SHEET.now TITLE.now SHOWN.now
+      ≡ opening_text 1120 high SHEET.now TITLE.now SHOWN.now
       ++ flat_map shape_text shapes
       ++ flat_map (text_of s.rows s.octets) s.marks ++ (codes "</svg>" ++ 10 ∷ [])

@@ -54,13 +54,13 @@ fn print_shapes(
     glance: &Glance,
 ) -> Result<String, AllocError>
     ensures { IfOk result (λ t. string_bytes t
-        ≡ opening_text 1040 high SHEET.now TITLE.now SHOWN.now
+        ≡ opening_text 1120 high SHEET.now TITLE.now SHOWN.now
         ++ flat_map shape_text shapes.now
         ++ flat_map (text_of glance.now.rows.list.items glance.now.octets) glance.now.marks.items
         ++ (codes "</svg>" ++ 10 ∷ [])) }
 {
     let (title, shown) = (TITLE.as_bytes(), SHOWN.as_bytes());
-    let mut out = print_opening(alloc, 1040, high, SHEET, title, shown)?;
+    let mut out = print_opening(alloc, 1120, high, SHEET, title, shown)?;
     write_shapes(&mut out, shapes)?;
     let (rows, marks) = (glance.rows.list.as_slice(), glance.marks.as_slice());
     write_marks(&mut out, rows, glance.octets, marks)?;

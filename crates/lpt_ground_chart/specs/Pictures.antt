@@ -166,9 +166,11 @@ seen_octet b =
     else if nat_lt b 32 || nat_lt 126 b then codes "?"
     else b ∷ []
 
--- a title as it is seen: as much of it as there is room for
+-- a title as it is seen: one that is too wide is cut
 unfoldable pub seen_title : List ℕ → List ℕ
-seen_title t = flat_map seen_octet (take 140 t)
+seen_title t =
+    if nat_le (length t) 140 then flat_map seen_octet t
+    else flat_map seen_octet (take 138 t) ++ codes ".."
 
 -- what is counted of a pass
 unfoldable pub counts_text : Flown → List ℕ

@@ -1,6 +1,7 @@
 //! What is said above the rows of a picture, and how marks look.
 
 ghost use Rattle.std.specs.Prelude.{◌≡◌, ◌++◌, IfOk, OnOk};
+ghost use Rattle.std.specs.List.{flat_map};
 ghost use Rattle.std.specs.String.{string_bytes};
 ghost use Rattle.lpt_ground_chart.specs.Flights.{sent_among};
 ghost use Rattle.lpt_ground_chart.specs.Pictures.{column_text, columns_text, counts_text, head_text, legend_text, part_text, seen_octet, seen_title, size_text};
@@ -71,16 +72,27 @@ fn write_octet(out: &mut String, octet: u8) -> Result<(), AllocError>
     }
 }
 
-// Writes a title as it is seen.
+// Writes octets as they are seen.
+fn write_seen(out: &mut String, octets: &[u8]) -> Result<(), AllocError>
+    ensures { OnOk result (string_bytes out.new
+        ≡ string_bytes out.old ++ flat_map seen_octet octets.now) }
+{
+    for octet in octets {
+        write_octet(out, *octet)?;
+    }
+    Ok(())
+}
+
+// Writes a title as it is seen: cut if it is too wide.
 #[tactic(auto, unfolding(crate::specs::Pictures::seen_title))]
 fn write_title(out: &mut String, title: &[u8]) -> Result<(), AllocError>
     ensures { OnOk result (string_bytes out.new ≡ string_bytes out.old ++ seen_title title.now) }
 {
-    let seen = front(140, title);
-    for octet in seen {
-        write_octet(out, *octet)?;
+    if title.len() <= 140 {
+        return write_seen(out, title);
     }
-    Ok(())
+    write_seen(out, front(138, title))?;
+    out.push_str("..")
 }
 
 // What is counted of a pass.

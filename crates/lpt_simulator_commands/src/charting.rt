@@ -67,20 +67,29 @@ fn tell_run<R: Machine>(
     };
     drop(picture);
     written?;
-    let is_short = tell_short(rt, words, events);
+    let may_refuse = match &ran {
+        Ok(end) => end.refused > 0,
+        Err(_) => true,
+    };
+    let is_short = tell_short(rt, words, events, words.refused && may_refuse);
     match status_at_end(rt, source, words.script, ran) {
         Ok(Status::Done) if is_short => Ok(Status::Refused),
         status => status,
     }
 }
 
-// Whether a choice begins behind a run of so many events, after standard error was told so. A line
-// that was refused behind the last of them has their count for its place.
-fn tell_short(rt: &(impl Eprint + AllocGlobal), words: &ChartWords<'_>, events: u64) -> bool {
+// Whether a choice begins behind a run of so many events, after standard error was told so. A
+// refused line behind the last of them, if such lines are drawn, has their count for its place.
+fn tell_short(
+    rt: &(impl Eprint + AllocGlobal),
+    words: &ChartWords<'_>,
+    events: u64,
+    draws_refused: bool,
+) -> bool {
     let Some(from) = words.from else {
         return false;
     };
-    if from < events || (words.refused && from == events) {
+    if from < events || (draws_refused && from == events) {
         return false;
     }
     let text = match events.checked_sub(1) {

@@ -21,7 +21,7 @@ returns c =
       tells = c.in_ok-shapes.ensures;
       written = c.in_ok-text.ensures
           ∙ ap (λ (ss : List Shape).
-          opening_text 1040 high SHEET.now TITLE.now SHOWN.now
+          opening_text 1120 high SHEET.now TITLE.now SHOWN.now
           ++ flat_map shape_text ss
           ++ flat_map (text_of g.rows.list.items g.octets) g.marks.items
           ++ (codes "</svg>" ++ 10 ∷ []))
