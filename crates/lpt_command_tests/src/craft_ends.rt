@@ -86,7 +86,7 @@ fn a_spacecraft_serves_its_input(rt: HostRuntime) {
     do_cases(&rt, &rt, rt.alloc(), &SERVING);
 }
 
-static MEMORIES: [Case; 9] = [
+static MEMORIES: [Case; 11] = [
     Case {
         words: "spacecraft --memory 1=flash --save",
         files: &[("flash", &[0, 0, 0, 0, 7, 7])],
@@ -174,6 +174,27 @@ static MEMORIES: [Case; 9] = [
         made: &[("flash.lock", &[])],
         errors: "Write\nlpt: flash: another process uses it, the one whose number stands in \
                  flash.lock\n",
+        ..NOTHING
+    },
+    // A file is read under its lock, and the words are looked at before.
+    Case {
+        words: "spacecraft --memory 1=flash --save",
+        files: &[("flash", &[])],
+        input: ASKED,
+        trouble: Trouble::Locked,
+        status: 3,
+        made: &[("flash.lock", &[])],
+        errors: "Write\nlpt: flash: another process uses it, the one whose number stands in \
+                 flash.lock\n",
+        ..NOTHING
+    },
+    Case {
+        words: "spacecraft --memory 1=flash --memory 2=flash --save",
+        files: &[("flash", &[7])],
+        input: ASKED,
+        trouble: Trouble::Locked,
+        status: 2,
+        errors: "config refused\nlpt: --memory 2=flash: memory 1 is saved there already\n",
         ..NOTHING
     },
 ];

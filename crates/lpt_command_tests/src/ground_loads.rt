@@ -3,8 +3,8 @@
 
 use crate::cases::{Answer, Case, Files, NOTHING, Printed, Trouble, do_cases};
 use crate::worked::{
-    BOTH_COMPLETIONS, CHECK, CHECKED, COMPLETION, COMPLETION_OF_SEVEN, DUMPED, DUMPED_OTHERS, JOB,
-    JOB_BEGUN, LOAD, LOAD_AGAIN, LOAD_AND_DUMP, LOAD_BEYOND, LOAD_BOTH, LOAD_OF_SEVEN, REFUSED,
+    CHECK, CHECKED, COMPLETION, COMPLETION_OF_SEVEN, DUMPED, DUMPED_OTHERS, JOB, JOB_BEGUN, LOAD,
+    LOAD_AGAIN, LOAD_AND_CHECK, LOAD_AND_DUMP, LOAD_BEYOND, LOAD_OF_SEVEN, REFUSED,
 };
 
 const IMAGE: Files = &[("image", &[0x11, 0x22, 0x33, 0x44])];
@@ -31,7 +31,7 @@ const OPEN: Case = Case {
     ..LOADING
 };
 
-static LOADS: [Case; 14] = [
+static LOADS: [Case; 16] = [
     LOADING,
     Case {
         words: "ground load 1 0 image --source 1 --count 7 --wait 60000 --quiet",
@@ -165,6 +165,22 @@ static LOADS: [Case; 14] = [
         errors: "config refused\nlpt: --chart image: it is the file of an area as well\n",
         ..LOADING
     },
+    Case {
+        words: "ground load 1 0 image --source 1 --chart none/picture",
+        answers: &[],
+        status: 3,
+        output: Printed::Whole(&[]),
+        errors: "Write\nlpt: none/picture: entity not found\n",
+        ..LOADING
+    },
+    Case {
+        words: "ground load 1 0 image --source 1 --up image",
+        answers: &[],
+        status: 2,
+        output: Printed::Whole(&[]),
+        errors: "config refused\nlpt: --up image: it is the file of an area as well\n",
+        ..LOADING
+    },
 ];
 
 #[test]
@@ -263,7 +279,7 @@ const GOING_ON: Case = Case {
     ..NOTHING
 };
 
-static JOBS: [Case; 6] = [
+static JOBS: [Case; 8] = [
     Case {
         words: "ground load 1 0 image --source 1 --count 7 --wait 60000 --job load.job",
         made: &[("load.job.lock", b"1\n"), ("load.job", JOB)],
@@ -289,6 +305,42 @@ static JOBS: [Case; 6] = [
         ..OPEN
     },
     GOING_ON,
+    // The report may be one on what an earlier run sent, so the load is checked too.
+    Case {
+        files: &[
+            ("image", &[0x11, 0x22, 0x33, 0x44]),
+            ("load.job", JOB_BEGUN),
+        ],
+        answers: &[
+            Answer {
+                behind: 27,
+                octets: COMPLETION,
+            },
+            Answer {
+                behind: 48,
+                octets: CHECKED,
+            },
+        ],
+        output: Printed::Whole(LOAD_AND_CHECK),
+        errors: "lpt: 1 load completed: 1 packet, 1 round\n\
+                 lpt: 1 check completed: 1 packet, 1 round\n",
+        ..GOING_ON
+    },
+    // What has the name of the lock stays.
+    Case {
+        files: &[
+            ("image", &[0x11, 0x22, 0x33, 0x44]),
+            ("load.job", JOB),
+            ("load.job.lock", b"text"),
+        ],
+        answers: &[],
+        status: 3,
+        made: &[],
+        output: Printed::Whole(&[]),
+        errors: "Write\nlpt: load.job.lock: it is no lock of lpt, and isn't overwritten: give this \
+                 file another name\n",
+        ..GOING_ON
+    },
     Case {
         files: &[("image", &[0x11, 0x22, 0x33, 0x45]), ("load.job", JOB)],
         answers: &[],
@@ -316,60 +368,4 @@ static JOBS: [Case; 6] = [
 #[test]
 fn ground_goes_on_with_a_job(rt: HostRuntime) {
     do_cases(&rt, &rt, rt.alloc(), &JOBS);
-}
-
-// A list of two files.
-const LIST: &[u8] = b"\
-    [[patch]]\n\
-    memory = 1\n\
-    address = 0\n\
-    file = \"image\"\n\
-    [[patch]]\n\
-    memory = 1\n\
-    address = 8\n\
-    file = \"other\"\n";
-
-const PATCHING: Case = Case {
-    words: "ground patch list --source 1 --count 7 --wait 60000",
-    files: &[
-        ("list", LIST),
-        ("image", &[0x11, 0x22, 0x33, 0x44]),
-        ("other", &[0x55, 0x66, 0x77, 0x88]),
-    ],
-    answers: &[Answer {
-        behind: 54,
-        octets: BOTH_COMPLETIONS,
-    }],
-    output: Printed::Whole(LOAD_BOTH),
-    errors: "lpt: 2 loads completed: 2 packets, 1 round\n",
-    ..NOTHING
-};
-
-static PATCHES: [Case; 3] = [
-    PATCHING,
-    Case {
-        files: &[
-            ("list", LIST),
-            ("image", b"nine more"),
-            ("other", &[0x55, 0x66, 0x77, 0x88]),
-        ],
-        answers: &[],
-        status: 2,
-        output: Printed::Whole(&[]),
-        errors: "list refused\nlpt: list: patch 2: file: other overlaps image of patch 1\n",
-        ..PATCHING
-    },
-    Case {
-        files: &[("list", LIST), ("image", &[0x11, 0x22, 0x33, 0x44])],
-        answers: &[],
-        status: 3,
-        output: Printed::Whole(&[]),
-        errors: "Read\nlpt: other: entity not found\n",
-        ..PATCHING
-    },
-];
-
-#[test]
-fn ground_loads_a_list(rt: HostRuntime) {
-    do_cases(&rt, &rt, rt.alloc(), &PATCHES);
 }

@@ -29,7 +29,7 @@ const CHECKING: Case = Case {
     ..NOTHING
 };
 
-static READS: [Case; 7] = [
+static READS: [Case; 9] = [
     DUMPING,
     // What was there stays, since nothing came.
     Case {
@@ -67,6 +67,26 @@ static READS: [Case; 7] = [
         made: &[],
         output: Printed::Whole(&[]),
         errors: "lpt: a dump's report is longer than a packet of these parts: give a greater \
+                 --part-size\n",
+        ..DUMPING
+    },
+    // Nothing is sent if there is no folder for the file.
+    Case {
+        words: "ground dump 1 0 4 --to none/back --source 1 --part-size 16",
+        answers: &[],
+        status: 3,
+        made: &[],
+        output: Printed::Whole(&[]),
+        errors: "Write\nlpt: none/back: entity not found\n",
+        ..DUMPING
+    },
+    Case {
+        words: "ground dump 1 0 0x10000000 --to back --source 1 --part-size 1024",
+        answers: &[],
+        status: 1,
+        made: &[],
+        output: Printed::Whole(&[]),
+        errors: "lpt: 263690 requests are more than a pass has, 16384: give a greater \
                  --part-size\n",
         ..DUMPING
     },

@@ -16,6 +16,8 @@ mod content;
 #[cfg(test)]
 mod craft_ends;
 #[cfg(test)]
+mod ground_lists;
+#[cfg(test)]
 mod ground_loads;
 #[cfg(test)]
 mod ground_reads;

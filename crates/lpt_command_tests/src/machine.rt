@@ -128,12 +128,10 @@ impl<'a, T: Wait> Files for InMemory<'a, T> {
     fn open_file(&self, how: &OpenOptions, path: &str) -> io::Result<Opened<'a, T>> {
         how.check()?;
         let mut content = self.desk.content.lock(self.waits);
-        let number = if how.asks_write() {
-            content.new_file(path)
-        } else {
-            content
-                .number_of(path)
-                .ok_or(io::Error::from(ErrorKind::NotFound))
+        let number = match content.number_of(path) {
+            Some(number) if !how.asks_truncate() => Ok(number),
+            _ if how.asks_write() => content.new_file(path),
+            _ => Err(io::Error::from(ErrorKind::NotFound)),
         };
         drop(content);
         Ok(Opened {

@@ -132,7 +132,7 @@ const REFUSING: Case = Case {
     ..LOADING
 };
 
-static REFUSALS: [Case; 5] = [
+static REFUSALS: [Case; 6] = [
     Case {
         files: &[("flash", &[0, 0, 0, 0, 7, 7])],
         status: 3,
@@ -167,6 +167,12 @@ static REFUSALS: [Case; 5] = [
         status: 2,
         errors: "error: the dump would overwrite flash, the file of '--memory <ID=FILE>'\n\n\
                  For more information, try '--help'.\n",
+        ..REFUSING
+    },
+    Case {
+        words: "pass dump 1 0 4 --to none/back --source 1 --memory 1=flash",
+        status: 3,
+        errors: "Write\nlpt: none/back: entity not found\n",
         ..REFUSING
     },
 ];

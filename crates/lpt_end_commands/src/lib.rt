@@ -4,36 +4,11 @@
 //! every command reaches and what an end reaches besides. The first call is `ground`.
 #![tactic(auto)]
 
-mod comparing;
-mod errands;
-mod ground_charts;
-mod ground_lines;
-mod ground_notes;
-mod ground_puts;
-mod ground_sources;
-mod ground_told;
-mod ground_wires;
-mod grounds;
-mod inbox;
-mod keeping;
-mod locking;
-mod logging;
-mod machine;
-mod memories;
-mod outputs;
 mod passing;
-mod patches;
-mod pieces;
-mod pipe;
-mod same_files;
-mod serving;
-mod ticker;
-mod uplinks;
-mod wires;
 
-pub use grounds::ground;
 pub use lpt_command_line::{GroundWords, PassWords, SettingWords, SpacecraftWords};
+pub use lpt_end_machine::{EndMachine, LastingFiles};
+pub use lpt_ground_commands::ground;
 pub use lpt_io::{Failure, Machine, Status, Voice};
-pub use machine::{EndMachine, LastingFiles};
+pub use lpt_spacecraft_commands::spacecraft;
 pub use passing::pass;
-pub use serving::spacecraft;

@@ -2,22 +2,19 @@
 
 ghost use Rattle.lpt_events.specs.Configs.{IsConfig};
 
-use crate::errands::{Errand, ErrandKind, Places};
-use crate::ground_notes::GroundNotes;
-use crate::ground_told::Teller;
-use crate::ground_wires::hear_source;
-use crate::grounds::{Ready, job_lock, put_over, ready_of};
-use crate::machine::{EndMachine, PlainMachine};
-use crate::outputs::{check_chart, overwritten};
-use crate::pieces::{Piece, pieces_of};
-use crate::pipe::{PipeReader, PipeWriter, Unread, pipe};
-use crate::serving::{Begun, begun_craft, serve};
-use crate::wires::Wires;
 use lpt_command_line::{Job, OddsWords, PassWords, SettingWords, WordFault};
+use lpt_end_machine::{EndMachine, PlainMachine};
 use lpt_events::Config;
+use lpt_ground_commands::{
+    Errand, ErrandKind, GroundNotes, Piece, Places, Ready, Teller, check_chart, check_places,
+    hear_source, job_lock, overwritten, pieces_of, put_over, ready_of,
+};
 use lpt_ground_run::{Asked, Fate};
 use lpt_io::{Failure, Fault, Status, Voice, Watched, config_of, word_refused};
 use lpt_lossy::{Dice, Layouts, LossyLink, Odds, lossy_stream};
+use lpt_spacecraft_commands::{
+    Begun, PipeReader, PipeWriter, Unread, Wires, begun_craft, pipe, serve,
+};
 use lpt_text::{FromStd, StreamFault};
 use std::alloc::{AllocError, Global};
 use std::sync::Wait;
@@ -50,6 +47,7 @@ where
     if let Some(fault) = overwritten(rt, &settings, &words.ground, Some(&words.craft)) {
         return Ok(word_refused(rt, rt.alloc(), &fault));
     }
+    check_places(rt, &words.ground)?;
     let Some(pieces) = pieces_of(rt, &words.ground)? else {
         return Ok(Status::Unreadable);
     };
@@ -289,12 +287,14 @@ fn carry_between<R: PlainMachine, T: Threads + Wait + Clock + Copy + Drop + Send
 ) -> Result<Status, Failure> {
     let mut errand = errand;
     let words = &words.ground;
+    let terms = errand.first.terms();
     let mut ears = hear_source(
         rt,
         threads,
         FromStd::new(down),
         words.resync,
         words.wait,
+        terms,
         notes,
     )?;
     let out = FromStd::new(Watched::new(up));

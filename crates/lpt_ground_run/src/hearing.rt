@@ -8,7 +8,7 @@ use crate::Halt;
 use crate::counts::RunCounts;
 use crate::cutting::{Outlet, hand_packets};
 use crossbeam_channel::{Receiver, RecvTimeoutError, Sender, unbounded};
-use lpt_ground::{Asked, Ear, Waited};
+use lpt_ground::{Asked, Ear, Terms, Waited};
 use lpt_packet::Octets;
 use lpt_text::{Source, StreamFault};
 use std::alloc::Global;
@@ -80,8 +80,10 @@ impl<R: Wait + Drop> Outlet for Handing<R> {
 pub struct Hearing<R: Wait + Clock + Drop, N: Notes + Drop> {
     rt: R,
     from: Receiver<Came>,
-    // How long nothing comes until a wait is over.
+    // How long no report comes until a wait is over.
     wait: Duration,
+    // Whose reports these are.
+    terms: Terms,
     notes: N,
     // Why nothing more will come, if it isn't the end of what comes down.
     fault: Option<StreamFault>,
@@ -94,8 +96,8 @@ pub struct Hearing<R: Wait + Clock + Drop, N: Notes + Drop> {
 
 impl<R: Threads + Wait + Clock + Copy + Drop + Send + 'static, N: Notes + Drop> Hearing<R, N> {
     /// Starts a thread that reads this source, and hears what it hands over. It reads up to octets
-    /// with which no packet begins, or, if it resumes, to the source's end. A wait is over once
-    /// nothing has come for so many milliseconds.
+    /// with which no packet begins, or, if it resumes, to the source's end. A wait is over once no
+    /// report under these terms has come for so many milliseconds, whatever else comes.
     ///
     /// The thread isn't joined: it ends with its source, with the process, or once it has a packet
     /// to hand over and this is gone. Errors: `NoThread`, `Memory`.
@@ -105,6 +107,7 @@ impl<R: Threads + Wait + Clock + Copy + Drop + Send + 'static, N: Notes + Drop> 
         source: S,
         resumes: bool,
         wait: u32,
+        terms: Terms,
         notes: N,
     ) -> Result<Self, HearFault> {
         let Ok((to, from)) = unbounded(alloc) else {
@@ -124,6 +127,7 @@ impl<R: Threads + Wait + Clock + Copy + Drop + Send + 'static, N: Notes + Drop> 
                 rt: *rt,
                 from,
                 wait: Duration::from_millis(u64::from(wait)),
+                terms,
                 notes,
                 fault: None,
                 halt: None,
@@ -248,21 +252,40 @@ impl<R: Wait + Clock + Drop, N: Notes + Drop> Ear for Hearing<R, N> {
     }
 
     fn wait(&mut self) -> Waited {
-        match self.from.recv_timeout(&self.rt, self.wait) {
-            Ok(came) => match self.packet_of(came) {
-                Some(octets) => {
-                    self.counts.count_down();
-                    Waited::Packet(octets)
-                }
-                None => Waited::End,
-            },
-            Err(RecvTimeoutError::Timeout) => Waited::Quiet,
-            Err(RecvTimeoutError::Disconnected) => Waited::End,
+        let Some(deadline) = end_of_wait(&self.rt, self.wait) else {
+            return Waited::Quiet;
+        };
+        for _ in 0..u64::MAX {
+            let came = match self.from.recv_deadline(&self.rt, deadline) {
+                Ok(came) => came,
+                Err(RecvTimeoutError::Timeout) => return Waited::Quiet,
+                Err(RecvTimeoutError::Disconnected) => return Waited::End,
+            };
+            let Some(octets) = self.packet_of(came) else {
+                return Waited::End;
+            };
+            self.counts.count_down();
+            // What is no report of the pass says nothing of it, and the wait goes on.
+            if is_report(self.terms, &octets) {
+                return Waited::Packet(octets);
+            }
         }
+        Waited::Quiet
     }
 
     fn keep(&mut self, asked: &[Asked]) -> bool {
         self.counts.begin_round();
         self.notes.keep(self.counts, asked)
     }
+}
+
+// When a wait of this length is over that begins now, if the clock can be read.
+fn end_of_wait(clock: &impl Clock, wait: Duration) -> Option<Instant> {
+    let now = Instant::now(clock).ok()?;
+    now.checked_add(wait)
+}
+
+// Whether a packet is a report under these terms.
+fn is_report(terms: Terms, packet: &Octets) -> bool {
+    terms.report_of(packet.as_slice()).is_some()
 }

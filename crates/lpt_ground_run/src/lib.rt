@@ -28,7 +28,7 @@ pub use halt::Halt;
 pub use heads::Heads;
 pub use hearing::{HearFault, Hearing, Notes};
 pub use keeping::{digest_of, hear_kept, kept_packets, some_done};
-pub use lpt_ground::{Asked, End, FailureNotice, Fate, Pass};
+pub use lpt_ground::{Asked, End, FailureNotice, Fate, Pass, Terms};
 pub use lpt_ground_large::{Large, Names, Uplink};
 pub use lpt_packet::Octets;
 pub use lpt_pus::AckFlags;

@@ -149,7 +149,8 @@ pub fn name_of(path: &str) -> &str
     }
 }
 
-/// The octets of the file at this path, or of standard input for `-`.
+/// The octets of the file at this path, or of standard input for `-`: all, or more than the
+/// addresses of a memory.
 ///
 /// Errors: `Read` if it can't be opened or read; `Memory`.
 pub fn file_at(rt: &impl Machine, path: &str) -> Result<Octets, Failure> {
@@ -194,7 +195,8 @@ pub fn read_failure<I>(rt: &impl AllocGlobal, input: &Watched<I>, path: &str) ->
 
 /// Why the packets that are read at these paths failed, if a read did. Otherwise standard error is
 /// told if they end before the place from which on they are read, and which captures end within a
-/// record, if the voice tells that: what stands in front of it was read.
+/// record, if the voice tells that: what stands in front of it was read. Before that, what was told
+/// of how far the reading is goes away: it may have stopped before the end.
 pub fn packets_end<R: Machine>(
     rt: &R,
     voice: Voice,
@@ -202,6 +204,7 @@ pub fn packets_end<R: Machine>(
     paths: &[&str],
     failed: bool,
 ) -> Option<Failure> {
+    voice.clear(rt);
     if failed {
         return Some(packets_failure(rt, packets, paths));
     }

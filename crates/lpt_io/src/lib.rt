@@ -40,6 +40,6 @@ pub use lpt_sources::{Chain, SourceSpan};
 pub use lpt_text::{FromStd, StreamFault};
 pub use machine::{Machine, Terminals};
 pub use progress::{Pace, Paced, Voice};
-pub use saving::{file_behind, write_beside, write_for_good};
+pub use saving::{check_place, file_behind, write_beside, write_for_good};
 pub use streams::{Output, finish, first_failure, output, write_all_out};
 pub use watched::Watched;

@@ -48,6 +48,40 @@ where
     lpt_disk::write_for_good(&mut ForcedDisk { rt }, part.as_str(), path.as_str(), octets)
 }
 
+/// Refuses a path at which `write_for_good` would find no place for a file: something else is
+/// there, or its folder isn't. What else may fail shows only when it writes.
+///
+/// Errors: `Write`.
+pub fn check_place(rt: &(impl Files + AllocGlobal), path: &str) -> Result<(), Failure> {
+    match find_place(rt, path) {
+        Ok(()) => Ok(()),
+        Err(error) => Err(not_written(rt.alloc(), path, &error)),
+    }
+}
+
+// Finds a file at a path, or nothing in a folder that is there.
+fn find_place(rt: &(impl Files + AllocGlobal), path: &str) -> io::Result<()> {
+    let known = known_at(rt, path)?;
+    if known.is_some() {
+        return Ok(());
+    }
+    let path = file_behind(rt, path)?;
+    if path.as_str().is_empty() {
+        return Err(io::Error::from(ErrorKind::NotFound));
+    }
+    let folder = folder_of(path.as_str());
+    // The folder in which the program runs is there.
+    if folder == "." {
+        return Ok(());
+    }
+    let known = fs::metadata(rt, folder)?;
+    if known.is_dir() {
+        Ok(())
+    } else {
+        Err(io::Error::from(ErrorKind::NotADirectory))
+    }
+}
+
 // The name under which a file is written first.
 fn part_name(alloc: Global, path: &str) -> Result<String, Failure> {
     match part_of(alloc, path) {

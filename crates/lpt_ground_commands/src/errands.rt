@@ -101,10 +101,11 @@ impl Errand {
         }
     }
 
-    /// If some loads were completed in an earlier run, all octets are read behind the loads: the
-    /// spacecraft may have forgotten them since.
-    pub fn look_again(&mut self) {
-        if some_done(self.first.requests_asked()) {
+    /// If the job goes on from an earlier run, or some loads were completed in one, all octets are
+    /// read behind the loads: the spacecraft may have forgotten them since, and a report that
+    /// settles a load may be one on what the earlier run sent.
+    pub fn look_again(&mut self, goes_on: bool) {
+        if goes_on || some_done(self.first.requests_asked()) {
             if let Some(again) = self.again.take() {
                 self.second = Some(again);
             }
@@ -173,28 +174,21 @@ fn all_asked(
     for one in places {
         total = total.saturating_add(one.many());
     }
+    // Before any is made: so many may take more memory than there is.
+    if total > MOST as u64 {
+        return Err(PlanFault::TooMany(total));
+    }
     let mut asked = Vec::new(alloc);
     for one in places {
         let heads = heads_at(heads, asked.len());
-        let planned = asked_of(alloc, &heads, one, areas);
-        for request in planned.map_err(|fault| of_all(fault, total))? {
+        let planned = asked_of(alloc, &heads, one, areas)?;
+        for request in planned {
             if asked.push(request).is_err() {
                 return Err(PlanFault::Memory);
             }
         }
     }
-    if asked.len() > MOST {
-        return Err(PlanFault::TooMany(total));
-    }
     Ok(asked)
-}
-
-// The fault of an area, of which all together take so many requests.
-fn of_all(fault: PlanFault, total: u64) -> PlanFault {
-    match fault {
-        PlanFault::TooMany(_) => PlanFault::TooMany(total),
-        fault => fault,
-    }
 }
 
 // The heads of requests behind so many of these, with the same flags.

@@ -2,8 +2,8 @@
 
 ghost use Rattle.std.specs.Prelude.{◌≡◌, IfOk, None, option_map};
 
-use crate::machine::LastingFiles;
 use lpt_command_line::SpacecraftWords;
+use lpt_end_machine::LastingFiles;
 use lpt_io::{Failure, Fault, Status, tell_end};
 use lpt_spacecraft::{KeepFault, KeptFiles, Spacecraft, WholeFile, save_one};
 

@@ -2,30 +2,45 @@
 
 use crate::errands::{Errand, ErrandKind, Places};
 use crate::ground_told::Teller;
-use crate::machine::LastingFiles;
 use lpt_command_line::GroundWords;
+use lpt_end_machine::LastingFiles;
 use lpt_ground::dumped_octets;
 use lpt_ground_run::Asked;
-use lpt_io::{Failure, Fault, Status};
+use lpt_io::{Failure, Fault, Status, first_failure};
 
-/// Writes the files of what was dumped.
+/// Writes the files of what was dumped, also if another couldn't be written.
 ///
-/// Errors: `Write`; `Memory`.
+/// Errors: that of the first one that couldn't be written, `Write` or `Memory`.
 pub fn write_dumps(
     rt: &(impl LastingFiles + AllocGlobal),
     words: &GroundWords<'_>,
     errand: &Errand,
 ) -> Result<Status, Failure> {
     let mut rest = errand.first.requests_asked();
+    let mut written = Ok(());
     for (places, area) in errand.places.iter().zip(&words.areas) {
         let (asked, behind) = places.split(rest);
-        let Ok(octets) = dumped_octets(rt.alloc(), asked) else {
-            return Err(Failure::from(Fault::Memory));
-        };
-        rt.write_for_good(area.file, &octets)?;
+        if let Err(failure) = write_dump(rt, area.file, asked) {
+            written = first_failure(written, Some(failure));
+        }
         rest = behind;
     }
+    written?;
     Ok(Status::Done)
+}
+
+// Writes the octets that these requests got to the file at this path.
+//
+// Errors: `Write`; `Memory`.
+fn write_dump(
+    rt: &(impl LastingFiles + AllocGlobal),
+    path: &str,
+    asked: &[Asked],
+) -> Result<(), Failure> {
+    match dumped_octets(rt.alloc(), asked) {
+        Ok(octets) => rt.write_for_good(path, &octets),
+        Err(_) => Err(Failure::from(Fault::Memory)),
+    }
 }
 
 /// Compares what the first pass checked with the content, and answers whether they are the same.

@@ -10,12 +10,11 @@ use crate::ground_puts::{Noted, Puts};
 use crate::ground_sources::source_of;
 use crate::ground_told::{Teller, chart_title, title_of};
 use crate::ground_wires::{Ears, Wire, close, fifo_wire, hear, output_wire};
-use crate::locking::lock_file;
-use crate::machine::{EndMachine, PlainMachine};
-use crate::outputs::{check_chart, overwritten};
+use crate::outputs::{check_chart, check_places, check_up, overwritten};
 use crate::pieces::{Piece, pieces_of};
 use crate::uplinks::LONGEST_LOAD;
 use lpt_command_line::{GroundWords, Job, SettingWords};
+use lpt_end_machine::{EndMachine, PlainMachine, lock_file};
 use lpt_events::Config;
 use lpt_ground::{End, Pass};
 use lpt_ground_run::{PlanFault, carry_pass, carry_uplink};
@@ -28,9 +27,10 @@ use std::time::Clock;
 
 /// Carries what is asked of a memory to its end, as the process of this number.
 ///
-/// Errors: `Config` if the configuration is refused, or the picture's file is used otherwise;
-/// `Read` if a file or standard input can't be read, or the job's file is another job's; `Write`
-/// if the requests or a file can't be written; `Memory`.
+/// Errors: `Config` if the configuration is refused, or the file of the picture or of the requests
+/// is used otherwise; `Read` if a file or standard input can't be read, or the job's file is
+/// another job's; `Write` if the requests or a file can't be written, and before anything is sent
+/// if there is no place for a file; `Memory`.
 pub fn ground<R: EndMachine, T: Threads + Wait + Clock + Copy + Drop + Send + 'static>(
     rt: &R,
     threads: &T,
@@ -44,6 +44,8 @@ pub fn ground<R: EndMachine, T: Threads + Wait + Clock + Copy + Drop + Send + 's
     if let Some(fault) = overwritten(rt, settings, words, None) {
         return Ok(word_refused(rt, rt.alloc(), &fault));
     }
+    check_up(rt, settings, words)?;
+    check_places(rt, words)?;
     let Some(pieces) = pieces_of(rt, words)? else {
         return Ok(Status::Unreadable);
     };
@@ -74,7 +76,7 @@ fn carry_locked<R: EndMachine, T: Threads + Wait + Clock + Copy + Drop + Send + 
 /// The lock of the job's file, if there is one.
 ///
 /// Errors: `Write` if another process holds it, or it can't be had.
-pub(crate) fn job_lock<R: EndMachine>(
+pub fn job_lock<R: EndMachine>(
     rt: &R,
     process: u32,
     words: &GroundWords<'_>,
@@ -87,15 +89,17 @@ pub(crate) fn job_lock<R: EndMachine>(
 
 /// What is ready to be carried out: the errand, and its title.
 #[derive(Drop)]
-pub(crate) struct Ready {
-    pub(crate) errand: Errand,
-    pub(crate) title: String,
+pub struct Ready {
+    /// The errand.
+    pub errand: Errand,
+    /// Its title.
+    pub title: String,
 }
 
 /// What these words ask to be carried out of these areas. None if it can't be, and why was told.
 ///
 /// Errors: `Read` if a file can't be read; `Write` if the pass's source can't be noted; `Memory`.
-pub(crate) fn ready_of(
+pub fn ready_of(
     rt: &impl EndMachine,
     process: u32,
     config: &Config,
@@ -163,7 +167,8 @@ fn carry_ready<R: EndMachine, T: Threads + Wait + Clock + Copy + Drop + Send + '
     let Ready { mut errand, title } = ready;
     let teller = Teller::new(voice, words.json);
     let notes = GroundNotes::begin(rt, teller, title.as_str(), &mut errand.first, words.kept)?;
-    let mut ears = hear(rt, threads, words.resync, words.wait, notes)?;
+    let terms = errand.first.terms();
+    let mut ears = hear(rt, threads, words.resync, words.wait, terms, notes)?;
     let ended = match words.up {
         Some(path) => put_to_fifo(rt, &mut ears, words, &mut errand, path),
         None => {
@@ -188,9 +193,11 @@ fn put_to_fifo<R: EndMachine, T: Wait + Clock + Drop>(
     put_over(rt, ears, words, errand, out, path)
 }
 
-// Carries an errand out over what has this name, which is closed if it can be, before what comes
-// is heard on.
-pub(crate) fn put_over<R: PlainMachine, T: Wait + Clock + Drop, W: Write + Drop>(
+/// Carries an errand out over what has this name, which is closed if it can be, before what comes
+/// is heard on.
+///
+/// Errors: as of `ground`.
+pub fn put_over<R: PlainMachine, T: Wait + Clock + Drop, W: Write + Drop>(
     rt: &R,
     ears: &mut Ears<R, T>,
     words: &GroundWords<'_>,
@@ -245,7 +252,8 @@ fn carry_all<R: PlainMachine, T: Wait + Clock + Drop, K: Sink + Drop>(
     errand: &mut Errand,
     out: &mut Noted<K>,
 ) -> Result<Status, Failure> {
-    errand.look_again();
+    let goes_on = ears.notes().goes_on();
+    errand.look_again(goes_on);
     out.puts.begin(errand.first.requests_asked());
     let ended = match &mut errand.uplink {
         Some(uplink) => carry_uplink(rt.alloc(), uplink, &mut errand.first, ears, out),

@@ -5,13 +5,12 @@ ghost use Rattle.lpt_events.specs.Configs.{IsConfig};
 ghost use Rattle.lpt_spacecraft.specs.Streams.{IsIdle};
 
 use crate::keeping::save_all;
-use crate::locking::lock_file;
-use crate::machine::{EndMachine, PlainMachine};
-use crate::memories::memories_of;
+use crate::memories::{check_memories, memories_of};
 use crate::wires::{Wires, serve_kept};
 use lpt_command_line::{SettingWords, SpacecraftWords};
+use lpt_end_machine::{EndMachine, PlainMachine, locked_file};
 use lpt_events::Config;
-use lpt_io::{Failure, Fault, Machine, Status, file_behind, octets_from, open_input, settings_of};
+use lpt_io::{Failure, Fault, Machine, Status, octets_from, open_input, settings_of};
 use lpt_memory::Memories;
 use lpt_spacecraft::Spacecraft;
 use std::alloc::{AllocError, Global};
@@ -51,7 +50,7 @@ where
 
 /// A spacecraft that serves next.
 #[derive(Drop)]
-pub(crate) struct Begun {
+pub struct Begun {
     craft: Spacecraft,
     // The path of the file in which it is kept, if it is.
     state: Option<String>,
@@ -60,7 +59,7 @@ pub(crate) struct Begun {
 
 impl Begun {
     /// The octets of a memory, or `None` if there is no such memory.
-    pub(crate) fn content(&self, id: u8) -> Option<&[u8]> {
+    pub fn content(&self, id: u8) -> Option<&[u8]> {
         self.craft.content(id)
     }
 }
@@ -71,25 +70,26 @@ impl Begun {
 /// Errors: `Read` if a file can't be read, or isn't what was kept; `Config` if the files make no
 /// memories, or others than were kept; `Write` if another process uses a file that is written;
 /// `Memory`.
-pub(crate) fn begun_craft<R: EndMachine>(
+pub fn begun_craft<R: EndMachine>(
     rt: &R,
     process: u32,
     settings: &SettingWords<'_>,
     words: &SpacecraftWords<'_>,
 ) -> Result<(Begun, Vec<R::File>), Failure> {
     let (config, usual, _) = settings_of(rt, settings)?;
+    let mut locks = match saved_locks(rt, process, words) {
+        Ok(locks) => locks,
+        Err(failure) => {
+            drop(usual);
+            return Err(failure);
+        }
+    };
+    // They are read under their locks: what another process saves before that isn't undone.
     let memories = if words.memories.is_empty() {
         usual
     } else {
         drop(usual);
         memories_of(rt, words)?
-    };
-    let mut locks = match saved_locks(rt, process, words) {
-        Ok(locks) => locks,
-        Err(failure) => {
-            drop(memories);
-            return Err(failure);
-        }
     };
     let Some(path) = words.state else {
         let craft = new_craft(rt, &config, memories)?;
@@ -112,11 +112,14 @@ pub(crate) fn begun_craft<R: EndMachine>(
 }
 
 // The locks of the memories' files, if these are saved: no other process saves one meanwhile.
+//
+// Errors: as of `check_memories` and of `locked_file`; `Memory`.
 fn saved_locks<R: EndMachine>(
     rt: &R,
     process: u32,
     words: &SpacecraftWords<'_>,
 ) -> Result<Vec<R::File>, Failure> {
+    check_memories(rt, words)?;
     let mut locks = Vec::new(rt.alloc());
     if words.save {
         for (_, path) in &words.memories {
@@ -132,7 +135,7 @@ fn saved_locks<R: EndMachine>(
 /// Serves with a spacecraft over these wires.
 ///
 /// Errors: as of `spacecraft`.
-pub(crate) fn serve<R, T, I>(
+pub fn serve<R, T, I>(
     rt: &R,
     threads: &T,
     begun: Begun,
@@ -152,23 +155,6 @@ where
     let ended = serve_saved(rt, threads, &mut craft, words, path, wires);
     drop(craft);
     ended
-}
-
-// The file to which this path leads, and its lock: no other process serves with it meanwhile.
-fn locked_file<R: EndMachine>(
-    rt: &R,
-    process: u32,
-    path: &str,
-) -> Result<(String, R::File), Failure> {
-    let path = match file_behind(rt, path) {
-        Ok(path) => path,
-        Err(error) => {
-            let place = format!(in rt.alloc(); "{path}: {error}");
-            return Err(Failure::at(Fault::Read, place));
-        }
-    };
-    let lock = lock_file(rt, process, path.as_str())?;
-    Ok((path, lock))
 }
 
 // Serves over these wires, keeps the state at this path, if there is one, and saves the memories if

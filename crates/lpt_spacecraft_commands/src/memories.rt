@@ -1,18 +1,21 @@
 //! The memories whose first contents are files.
 
-use crate::same_files::is_same;
 use lpt_command_line::SpacecraftWords;
+use lpt_end_machine::is_same;
 use lpt_io::{Failure, Fault, Machine, octets_from, open_input};
 use lpt_memory::{MEMORY_LIMIT, Memories, SIZE_LIMIT};
 use lpt_packet::Octets;
 use std::fs;
 use std::rt::Files;
 
-/// The memories whose first contents are the files that the words name.
+/// Refuses memories that the words can't name beside each other. No file is read.
 ///
-/// Errors: `Read` if one can't be read; `Config` if a file is empty or too long, there are
-/// more than 16, or two of one identifier, or two of one file in which they are saved; `Memory`.
-pub fn memories_of(rt: &impl Machine, words: &SpacecraftWords<'_>) -> Result<Memories, Failure> {
+/// Errors: `Config` if there are more than 16, or two of one identifier, or two of one file in
+/// which they are saved; `Read` if a file isn't there.
+pub fn check_memories(
+    rt: &(impl Files + AllocGlobal),
+    words: &SpacecraftWords<'_>,
+) -> Result<(), Failure> {
     let count = words.memories.len();
     if count > MEMORY_LIMIT {
         let place = format!(in rt.alloc();
@@ -20,6 +23,49 @@ pub fn memories_of(rt: &impl Machine, words: &SpacecraftWords<'_>) -> Result<Mem
         );
         return Err(Failure::at(Fault::Config, place));
     }
+    for (number, (id, file)) in words.memories.iter().enumerate() {
+        check_memory(rt, words, number, *id, file)?;
+    }
+    Ok(())
+}
+
+// Refuses the memory of this number, from 0 on, if there was one of its identifier before it, or
+// one that is saved in the same file, or if its file isn't there.
+fn check_memory(
+    rt: &(impl Files + AllocGlobal),
+    words: &SpacecraftWords<'_>,
+    number: usize,
+    id: u8,
+    file: &str,
+) -> Result<(), Failure> {
+    for (known, path) in words.memories.iter().take(number) {
+        if *known == id {
+            let place = format!(in rt.alloc();
+                "--memory {id}={file}: there is a memory {id} already"
+            );
+            return Err(Failure::at(Fault::Config, place));
+        }
+        if words.save && is_same(rt, path, file) {
+            let place = format!(in rt.alloc();
+                "--memory {id}={file}: memory {known} is saved there already"
+            );
+            return Err(Failure::at(Fault::Config, place));
+        }
+    }
+    match fs::metadata(rt, file) {
+        Ok(_) => Ok(()),
+        Err(error) => {
+            let place = format!(in rt.alloc(); "{file}: {error}");
+            Err(Failure::at(Fault::Read, place))
+        }
+    }
+}
+
+/// The memories whose first contents are the files that the words name.
+///
+/// Errors: `Read` if one can't be read; `Config` if a file is empty or too long, or as of
+/// `check_memories`; `Memory`.
+pub fn memories_of(rt: &impl Machine, words: &SpacecraftWords<'_>) -> Result<Memories, Failure> {
     let mut list = Vec::new(rt.alloc());
     match read_memories(rt, words, &mut list) {
         Ok(()) => {}
@@ -34,51 +80,19 @@ pub fn memories_of(rt: &impl Machine, words: &SpacecraftWords<'_>) -> Result<Mem
     }
 }
 
-// Reads each file, unless there was a memory of its identifier before it, or one that is saved in
-// the same file.
+// Reads each file.
 fn read_memories(
     rt: &impl Machine,
     words: &SpacecraftWords<'_>,
     list: &mut Vec<(u8, Octets)>,
 ) -> Result<(), Failure> {
-    for (number, (id, file)) in words.memories.iter().enumerate() {
-        if list.iter().any(|(known, _)| known == id) {
-            let place = format!(in rt.alloc();
-                "--memory {id}={file}: there is a memory {id} already"
-            );
-            return Err(Failure::at(Fault::Config, place));
-        }
-        if let Some(known) = memory_of(rt, words, number, file) {
-            let place = format!(in rt.alloc();
-                "--memory {id}={file}: memory {known} is saved there already"
-            );
-            return Err(Failure::at(Fault::Config, place));
-        }
+    for (id, file) in &words.memories {
         let octets = read_one(rt, file)?;
         if list.push((*id, octets)).is_err() {
             return Err(Failure::from(Fault::Memory));
         }
     }
     Ok(())
-}
-
-// The memory among the first so many that is saved in the file to which this path leads as well, if
-// there is one.
-fn memory_of(
-    rt: &(impl Files + AllocGlobal),
-    words: &SpacecraftWords<'_>,
-    count: usize,
-    path: &str,
-) -> Option<u8> {
-    if !words.save {
-        return None;
-    }
-    for (id, file) in words.memories.iter().take(count) {
-        if is_same(rt, file, path) {
-            return Some(*id);
-        }
-    }
-    None
 }
 
 // The octets of a file that can be a memory. One that says beforehand that it is too long isn't

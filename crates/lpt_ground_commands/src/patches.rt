@@ -1,8 +1,9 @@
 //! A list of files that are loaded, each to an address of a memory.
 
-use crate::outputs::chart_refused;
+use crate::outputs::used_already;
 use crate::pieces::Piece;
-use crate::same_files::is_same;
+use lpt_command_line::GroundWords;
+use lpt_end_machine::is_same;
 use lpt_ground::overlap;
 use lpt_ground_run::AreaPlace;
 use lpt_io::{Failure, Fault, Machine, STANDARD, file_at, read_file, tell_text};
@@ -62,15 +63,15 @@ struct Patch<'t> {
     verify: bool,
 }
 
-/// What the list at this path has loaded, beside a picture that is written to this file, if one is.
-/// None if the list is refused, after standard error was told where and why.
+/// What the list at this path has loaded, if these words ask for it. None if the list is refused,
+/// after standard error was told where and why.
 ///
 /// Errors: `Read` if the list or one of its files can't be read; `Config` if the list has more than
-/// 1,048,576 octets, or the picture's file is one of a patch; `Memory`.
+/// 1,048,576 octets, or a patch's file is also the one of the picture or of the requests; `Memory`.
 pub fn patches_at(
     rt: &impl Machine,
     path: &str,
-    chart: Option<&str>,
+    words: &GroundWords<'_>,
 ) -> Result<Option<Vec<Piece>>, Failure> {
     let octets = read_file(rt, path)?;
     let text = match str::from_utf8(octets.as_slice()) {
@@ -82,7 +83,7 @@ pub fn patches_at(
         }
     };
     match toml::table_from_str(rt.alloc(), text) {
-        Ok(table) => patches_in(rt, path, chart, &table),
+        Ok(table) => patches_in(rt, path, words, &table),
         Err(error) => {
             let Ok(complaint) = complain_of_toml(rt.alloc(), text, &error) else {
                 return Err(Failure::from(Fault::Memory));
@@ -98,7 +99,7 @@ pub fn patches_at(
 fn patches_in(
     rt: &impl Machine,
     path: &str,
-    chart: Option<&str>,
+    words: &GroundWords<'_>,
     table: &Table,
 ) -> Result<Option<Vec<Piece>>, Failure> {
     let values = match values_in(table) {
@@ -112,7 +113,7 @@ fn patches_in(
             Ok(patch) => patch,
             Err(flaw) => return Ok(refuse(rt, place_of(rt.alloc(), path, Some(number), flaw))),
         };
-        check_patch(rt, patch.file, chart)?;
+        check_patch(rt, patch.file, words)?;
         let piece = piece_of(rt, patch)?;
         if let Some(why) = fault_of(patch.file, &piece, &files, &pieces) {
             let flaw = flaw_at("file", why);
@@ -125,14 +126,17 @@ fn patches_in(
     Ok(Some(pieces))
 }
 
-// Refuses a picture in a patch's file.
+// Refuses a picture or requests in a patch's file.
 fn check_patch(
     rt: &(impl Files + AllocGlobal),
     file: &str,
-    chart: Option<&str>,
+    words: &GroundWords<'_>,
 ) -> Result<(), Failure> {
-    match chart {
-        Some(chart) if is_same(rt, file, chart) => Err(chart_refused(rt, chart, "a patch")),
+    match (words.chart, words.up) {
+        (Some(chart), _) if is_same(rt, file, chart) => {
+            Err(used_already(rt, "--chart", chart, "a patch"))
+        }
+        (_, Some(up)) if is_same(rt, file, up) => Err(used_already(rt, "--up", up, "a patch")),
         _ => Ok(()),
     }
 }

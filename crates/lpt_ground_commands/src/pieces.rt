@@ -29,7 +29,7 @@ pub fn pieces_of(
     words: &GroundWords<'_>,
 ) -> Result<Option<Vec<Piece>>, Failure> {
     if let Some(path) = words.list {
-        return patches_at(rt, path, words.chart);
+        return patches_at(rt, path, words);
     }
     let mut pieces = Vec::new(rt.alloc());
     for area in &words.areas {

@@ -1,8 +1,8 @@
 //! What a pass hears and writes.
 
 use crate::ground_notes::GroundNotes;
-use crate::machine::{EndMachine, PlainMachine};
-use lpt_ground_run::{HearFault, Hearing};
+use lpt_end_machine::{EndMachine, PlainMachine};
+use lpt_ground_run::{HearFault, Hearing, Terms};
 use lpt_io::{Failure, Fault, Watched};
 use lpt_text::{FromStd, Source, StreamFault, flush_out};
 use std::fs::OpenOptions;
@@ -19,8 +19,8 @@ pub type Ears<R, T> = Hearing<T, GroundNotes<R>>;
 /// takes so few octets whole.
 pub type Wire<W> = FromStd<Watched<W>>;
 
-/// Hears what comes on standard input, and waits so many milliseconds for it. If it resumes, it
-/// goes on past octets with which no packet begins.
+/// Hears what comes on standard input, and waits so many milliseconds for reports under these
+/// terms. If it resumes, it goes on past octets with which no packet begins.
 ///
 /// Errors: `Read` if no thread could be started; `Memory`.
 pub fn hear<R: EndMachine, T: Threads + Wait + Clock + Copy + Drop + Send + 'static>(
@@ -28,10 +28,11 @@ pub fn hear<R: EndMachine, T: Threads + Wait + Clock + Copy + Drop + Send + 'sta
     threads: &T,
     resumes: bool,
     wait: u32,
+    terms: Terms,
     notes: GroundNotes<R>,
 ) -> Result<Ears<R, T>, Failure> {
     let source = FromStd::new(rt.standard_input());
-    hear_source(rt, threads, source, resumes, wait, notes)
+    hear_source(rt, threads, source, resumes, wait, terms, notes)
 }
 
 /// Hears what comes from this source in the same way.
@@ -43,6 +44,7 @@ pub fn hear_source<R, T, S>(
     source: S,
     resumes: bool,
     wait: u32,
+    terms: Terms,
     notes: GroundNotes<R>,
 ) -> Result<Ears<R, T>, Failure>
 where
@@ -50,7 +52,7 @@ where
     T: Threads + Wait + Clock + Copy + Drop + Send + 'static,
     S: Source + Drop + Send + 'static,
 {
-    match Hearing::begin(threads, rt.alloc(), source, resumes, wait, notes) {
+    match Hearing::begin(threads, rt.alloc(), source, resumes, wait, terms, notes) {
         Ok(ears) => Ok(ears),
         Err(HearFault::Memory) => Err(Failure::from(Fault::Memory)),
         Err(HearFault::NoThread) => {

@@ -3,7 +3,7 @@
 ghost use Rattle.std.specs.Prelude.{◌≤◌};
 
 use crate::ground_puts::Puts;
-use crate::machine::LastingFiles;
+use lpt_end_machine::LastingFiles;
 use lpt_ground_chart::{Ending, Flown, FlownRequest, FlownRound, draw, draw_both};
 use lpt_ground_run::{Asked, Fate, RunCounts};
 use lpt_io::{Failure, Fault};

@@ -2,7 +2,7 @@
 
 use crate::ground_charts::Charts;
 use crate::ground_told::Teller;
-use crate::machine::LastingFiles;
+use lpt_end_machine::LastingFiles;
 use lpt_ground::Pass;
 use lpt_ground_run::{Asked, Fate, Notes, RunCounts, digest_of, hear_kept, kept_packets};
 use lpt_io::{Failure, Fault, Machine, file_at, octets_from, open_input};
@@ -20,6 +20,8 @@ pub struct GroundNotes<R> {
     teller: Teller,
     // The path of the job's file, and its first line, if there is one.
     job: Option<(String, String)>,
+    // Whether that file was there: an earlier run of the job may have sent requests.
+    goes_on: bool,
     // Why it couldn't be written, if it couldn't.
     failure: Option<Failure>,
     // The round that was told last, and how many requests were settled before it.
@@ -39,14 +41,19 @@ impl<R: Machine> GroundNotes<R> {
         pass: &mut Pass,
         path: Option<&str>,
     ) -> Result<Self, Failure> {
-        let job = match path {
-            None => None,
-            Some(path) => Some(job_at(rt, title, pass, path)?),
+        let (job, goes_on) = match path {
+            None => (None, false),
+            Some(path) => {
+                let goes_on = fs::metadata(rt, path).is_ok();
+                let job = job_at(rt, title, pass, path)?;
+                (Some(job), goes_on)
+            }
         };
         Ok(GroundNotes {
             rt: *rt,
             teller,
             job,
+            goes_on,
             failure: None,
             told_last: None,
             charts: None,
@@ -73,6 +80,11 @@ impl<R: LastingFiles + AllocGlobal> GroundNotes<R> {
     /// Who tells what becomes of the pass.
     pub fn teller(&self) -> Teller {
         self.teller
+    }
+
+    /// Whether the job's file was there when the pass began.
+    pub fn goes_on(&self) -> bool {
+        self.goes_on
     }
 
     /// Why the job's file couldn't be written, if it couldn't.

@@ -1,9 +1,8 @@
 //! A pass's own source.
 
 use crate::ground_notes::source_at;
-use crate::locking::lock_file;
-use crate::machine::{EndMachine, LastingFiles};
 use lpt_command_line::{GroundWords, SourceWords};
+use lpt_end_machine::{EndMachine, LastingFiles, lock_file};
 use lpt_io::{Failure, Fault, Machine, file_at, tell_text};
 use std::fs;
 use std::io::ErrorKind;

@@ -6,10 +6,10 @@ ghost use Rattle.lpt_spacecraft.specs.Streams.{IsIdle};
 use crate::inbox::Inbox;
 use crate::keeping::{keep_failure, kept_files};
 use crate::logging::{Log, Silent};
-use crate::machine::PlainMachine;
-use crate::pipe::{PipeReader, PipeWriter};
+use crate::pipes::{PipeReader, PipeWriter};
 use crate::ticker::{Stopped, Ticker};
 use lpt_command_line::SpacecraftWords;
+use lpt_end_machine::PlainMachine;
 use lpt_io::{
     Failure, Fault, STANDARD, Status, Watched, finish, first_failure, output, read_failure,
     tell_place,
@@ -23,7 +23,7 @@ use std::time::Clock;
 
 /// What a spacecraft hears and writes over.
 #[derive(Drop)]
-pub(crate) enum Wires<T: Wait + Drop, I> {
+pub enum Wires<T: Wait + Drop, I> {
     /// Standard input, which this reads, and standard output.
     Standard(I),
     /// Pipes to other threads.

@@ -31,7 +31,7 @@ pub trait EndMachine: Machine + LastingFiles {
 /// What an end reaches of the machine once it has begun, also in a thread of its own. It has no
 /// associated type: the borrow checker's proof doesn't cover a thread that rests on a bound whose
 /// types have bounds, as `Files` has.
-pub(crate) trait PlainMachine: LastingFiles + Print + Eprint + Clock + AllocGlobal + Copy + Drop {}
+pub trait PlainMachine: LastingFiles + Print + Eprint + Clock + AllocGlobal + Copy + Drop {}
 
 impl<R: LastingFiles + Print + Eprint + Clock + AllocGlobal + Copy + Drop> PlainMachine for R {}
 

@@ -1,0 +1,31 @@
+//! Ground's end as a command, and what a pass in one process takes of it: areas and lists, an
+//! errand that is ready, what is told of it, and how it is carried out.
+//!
+//! The first call is `ground`.
+#![tactic(auto)]
+
+mod comparing;
+mod errands;
+mod ground_charts;
+mod ground_lines;
+mod ground_notes;
+mod ground_puts;
+mod ground_sources;
+mod ground_told;
+mod ground_wires;
+mod grounds;
+mod outputs;
+mod patches;
+mod pieces;
+mod uplinks;
+
+pub use errands::{Errand, ErrandKind, Places};
+pub use ground_notes::GroundNotes;
+pub use ground_told::Teller;
+pub use ground_wires::{Ears, Wire, hear_source};
+pub use grounds::{Ready, ground, job_lock, put_over, ready_of};
+pub use lpt_command_line::{GroundWords, SettingWords};
+pub use lpt_end_machine::{EndMachine, PlainMachine};
+pub use lpt_io::{Failure, Status, Voice};
+pub use outputs::{check_chart, check_places, overwritten};
+pub use pieces::{Piece, pieces_of};
