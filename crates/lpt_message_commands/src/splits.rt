@@ -171,7 +171,8 @@ fn split_from<R: Machine>(
     first_failure(finish(rt, out), failure)?;
     match split {
         Ok(SplitEnd::Written(_)) => {
-            tell_misfit(rt, config, layouts, &words.split, source.octets_kept());
+            let (size, kept) = (wanted.writing.part_size, source.octets_kept());
+            tell_misfit(rt, config, layouts, &words.split, size, kept);
             Ok(Status::Done)
         }
         Ok(end) => Ok(unsplit(rt, wanted, words, end)),
@@ -179,31 +180,38 @@ fn split_from<R: Machine>(
     }
 }
 
-// Says so if what was split is no message, so that whoever joins it gets none, and by which word
-// several packets are split.
+// Says so if what was written is no message. If it was split into parts of so many octets, it is
+// also said how whoever joins it gets it, and by which word several packets are split.
 fn tell_misfit(
     rt: &(impl Eprint + AllocGlobal),
     config: &Config,
     layouts: &Layouts,
     words: &SplitWords<'_>,
+    size: u32,
     octets: &[u8],
 ) {
     let reading = reading_of(layouts, config.apid, words.direction);
+    let is_in_parts = octets.len() > size as usize;
+    let advice = if is_in_parts {
+        ": join it with --any"
+    } else {
+        ""
+    };
     let text = match unfit(&reading, false, true, octets) {
         // It is whole, so that it is unsure doesn't come.
         None | Some(MisfitAs::Unsure) => return,
         Some(MisfitAs::OtherKind) => {
-            format!(in rt.alloc(); "the message is no packet of this direction: join it with --any")
+            format!(in rt.alloc(); "the message is no packet of this direction{advice}")
         }
         Some(MisfitAs::NoPacket(fault)) => {
             let (code, name) = (fault.code(), fault.name());
             let each = match whole_length(octets) {
-                Some(len) if len < octets.len() => "; --each splits each packet of a file",
+                Some(len) if is_in_parts && len < octets.len() => {
+                    "; --each splits each packet of a file"
+                }
                 _ => "",
             };
-            format!(in rt.alloc();
-                "the message is no packet (fault {code} {name}): join it with --any{each}"
-            )
+            format!(in rt.alloc(); "the message is no packet (fault {code} {name}){advice}{each}")
         }
     };
     if let Ok(text) = text {

@@ -8,8 +8,8 @@ use lpt_command_line::CompareWords;
 use lpt_compare::{Checked, Checks, Image, Others, read_checks};
 use lpt_events::Config;
 use lpt_io::{
-    Failure, Machine, Output, Status, Voice, file_at, finish, name_of, opened_packets, output,
-    packets_end, status_of, tell_no_packets, tell_text,
+    Failure, Machine, Output, Packets, Status, Voice, file_at, finish, name_of, opened_packets,
+    output, packets_end, status_of, tell_no_packets, tell_text,
 };
 use lpt_text::{StreamFault, write_out};
 use std::alloc::{AllocError, Global};
@@ -32,26 +32,29 @@ pub fn compare<R: Machine>(
     let Some(layouts) = own_or_given(rt, words.layout)? else {
         return Ok(Status::Unreadable);
     };
+    let mut reports = opened_packets(rt, voice, &words.reports, None, None)?;
     let octets = file_at(rt, words.file)?;
-    let checks = checks_at(rt, voice, &layouts.telemetry.packets, config.apid, words)?;
+    let layout = &layouts.telemetry.packets;
+    let checks = checks_in(rt, voice, layout, config.apid, words, &mut reports);
+    drop(reports);
+    let checks = checks?;
     let status = tell_checks(rt, voice, words, octets.as_slice(), checks);
     drop(octets);
     status
 }
 
-// The areas of the memory's check reports of this layout among the packets.
-fn checks_at<R: Machine>(
+// The areas of the memory's check reports of this layout among packets that were opened.
+fn checks_in<R: Machine>(
     rt: &R,
     voice: Voice,
     layout: &Layout,
     apid: u16,
     words: &CompareWords<'_>,
+    source: &mut Packets<R>,
 ) -> Result<Checks, Failure> {
-    let mut source = opened_packets(rt, voice, &words.reports, None, None)?;
-    let read = read_checks(rt.alloc(), layout, apid, words.memory, &mut source);
+    let read = read_checks(rt.alloc(), layout, apid, words.memory, source);
     let failed = matches!(read, Err(StreamFault::Read));
-    let failure = packets_end(rt, voice, &source, &words.reports, failed);
-    drop(source);
+    let failure = packets_end(rt, voice, source, &words.reports, failed);
     match (read, failure) {
         (Ok(checks), None) => Ok(checks),
         (Ok(checks), Some(failure)) => {

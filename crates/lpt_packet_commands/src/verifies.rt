@@ -4,8 +4,8 @@ use crate::layouts::own_or_given;
 use lpt_carried::{Layout, Layouts};
 use lpt_command_line::VerifyWords;
 use lpt_io::{
-    Failure, Fault, Machine, Status, Voice, finish, first_failure, name_of, opened_packets, output,
-    packets_end, status_of, tell_no_packets, tell_text,
+    Failure, Fault, Machine, Packets, Status, Voice, finish, first_failure, name_of,
+    opened_packets, output, packets_end, status_of, tell_no_packets, tell_text,
 };
 use lpt_list::Form;
 use lpt_outcomes::{
@@ -40,8 +40,18 @@ fn verify_by<R: Machine>(
     words: &VerifyWords<'_>,
 ) -> Result<Status, Failure> {
     let (up, down) = (&layouts.telecommands.packets, &layouts.telemetry.packets);
+    let mut reports = opened_packets(rt, voice, &words.reports, None, None)?;
     let mut requests = requests_at(rt, voice, up, words.requests)?;
-    let of_reports = hear_reports(rt, voice, down, &mut requests.asked, &words.reports)?;
+    let heard = hear_reports(
+        rt,
+        voice,
+        down,
+        &mut requests.asked,
+        &words.reports,
+        &mut reports,
+    );
+    drop(reports);
+    let of_reports = heard?;
     if words.open {
         put_open(rt, voice, up, words.requests, &requests.asked)?;
         return told_beside(rt, words, &requests, &of_reports);
@@ -73,21 +83,19 @@ fn requests_at<R: Machine>(
     }
 }
 
-// Tells these requests of the reports of this layout among the packets at these paths. Gives what
-// was passed over of those.
+// Tells these requests of the reports of this layout among packets that were opened at these paths.
+// Gives what was passed over of those.
 fn hear_reports<R: Machine>(
     rt: &R,
     voice: Voice,
     layout: &Layout,
     requests: &mut [Asked],
     paths: &[&str],
+    source: &mut Packets<R>,
 ) -> Result<Passed, Failure> {
-    let mut source = opened_packets(rt, voice, paths, None, None)?;
-    let read = read_reports(rt.alloc(), layout, requests, &mut source);
+    let read = read_reports(rt.alloc(), layout, requests, source);
     let failed = matches!(read, Err(StreamFault::Read));
-    let failure = packets_end(rt, voice, &source, paths, failed);
-    drop(source);
-    match failure {
+    match packets_end(rt, voice, source, paths, failed) {
         Some(failure) => Err(failure),
         None => Ok(read?),
     }
@@ -124,7 +132,10 @@ fn put_open<R: Machine>(
         Ok(0) => None,
         Ok(_) => Some(read_once(rt, path)),
         Err(StreamFault::Read) => packets_end(rt, voice, &source, &paths, true),
-        Err(fault) => Some(Failure::from(fault)),
+        Err(fault) => {
+            voice.clear(rt);
+            Some(Failure::from(fault))
+        }
     };
     drop(source);
     first_failure(finish(rt, out), failure)
