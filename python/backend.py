@@ -66,7 +66,7 @@ def build_wheel(wheel_directory: str, config_settings: object = None, metadata_d
     project, platform = _project(), re.sub(r"[-.]", "_", sysconfig.get_platform())
     name, tag = f"{project['name']}-{project['version']}", f"py3-none-{platform}"
     files = {f"forgesilver/{it.name}": (it, 0o755) for it in _built()}
-    files.update({f"forgesilver/{it.name}": (it, 0o644) for it in (HERE / "forgesilver").glob("*.py*")
+    files.update({f"forgesilver/{it.name}": (it, 0o644) for it in (HERE / "forgesilver").iterdir()
                   if it.suffix in (".py", ".typed")})
     listed = ""
     with zipfile.ZipFile(pathlib.Path(wheel_directory, f"{name}-{tag}.whl"), "w") as wheel:

@@ -180,24 +180,26 @@ def package(top: pathlib.Path, library: Library, place: str, version: str, folde
         (folder / f"{library.name}{suffix}.pc").write_text("\n".join(lines), encoding="utf-8")
 
 
-def sums(top: pathlib.Path) -> str:
-    """A checksum of all that the libraries are made of."""
-    places = [top / "include", top / "examples/c/memory", top / "docs/help/version"]
-    places += [top / "crates" / it / part for it in with_below(top) for part in ("src", "specs")]
-    files = [it for place in places for it in (place, *place.rglob("*")) if it.is_file()]
-    found = (f"{it.relative_to(top)} {hashlib.sha256(it.read_bytes()).hexdigest()}\n" for it in sorted(files))
+def sums(top: pathlib.Path, room: pathlib.Path | None = None) -> str:
+    """A checksum of all that the libraries are made of, with the crates of a room if one is given."""
+    crates = room or top
+    places = [(top, it) for it in ("include", "examples/c/memory", "docs/help/version")]
+    places += [(crates, f"crates/{it}/{part}") for it in with_below(crates) for part in ("src", "specs")]
+    files = [(it.relative_to(of), it) for of, place in places for it in (of / place, *(of / place).rglob("*"))]
+    found = (f"{name} {hashlib.sha256(it.read_bytes()).hexdigest()}\n" for name, it in sorted(files) if it.is_file())
     return hashlib.sha256("".join(found).encode()).hexdigest() + "\n"
 
 
 def build(room: pathlib.Path, top: pathlib.Path, name: str = "x86_64") -> None:
-    """Writes the libraries for a processor, and behind them the checksum of what they are made of."""
+    """Writes the libraries for a processor, and behind them the checksum of what they are made of: of the
+    crates in the room, because those of the repository may have changed since they were copied."""
     processor = PROCESSORS[name]
     to = top / "build" / processor.folder
     to.mkdir(parents=True, exist_ok=True)
     compiler = os.environ.get("CC", processor.compiler)
     with tempfile.TemporaryDirectory(dir=to, prefix="room.") as made:
         folder = pathlib.Path(made)
-        (folder / "sums").write_text(sums(top), encoding="utf-8")
+        (folder / "sums").write_text(sums(top, room), encoding="utf-8")
         with ThreadPoolExecutor() as pool:
             list(pool.map(lambda it: archive(room, it, processor, folder / f"lib{it.name}.a"), LIBRARIES))
         for library in LIBRARIES:

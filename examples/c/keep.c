@@ -172,10 +172,13 @@ static bool take(int from, uint8_t *octets, size_t *len) {
 
 /* ---- the spacecraft ---- */
 
-/* Restores the end that was saved, or makes a new one if none was. */
+/* Restores the end that was saved, or makes a new one if none was. First it waits until what the
+   last process wrote is on the disk: otherwise the newest copy might stand in the system's cache
+   alone, while the next one is written over the other. */
 static void start(LptEnd **end, int file, Kept *kept) {
     static const LptMemory memory = {MEMORY, 0, SIZE};
     uint32_t fault;
+    must(fsync(file) == 0, "the file isn't on the disk");
     if (read_kept(file, kept)) {
         fault = lpt_end_resume(end, LPT_SIDE_SPACECRAFT, &config, kept->state, kept->state_len,
                                &memory, 1, kept->memory, SIZE);

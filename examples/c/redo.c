@@ -215,9 +215,11 @@ static bool take(int from, uint8_t *octets, size_t *len) {
 
 /* ---- the spacecraft ---- */
 
-/* After a reset: writes again what was saved, and restores the end from its state. */
+/* After a reset: waits until the copies are on the disk, since the last process may have ended
+   before; writes again what was saved, and restores the end from its state. */
 static void start(LptEnd **end, Files files, Kept *kept) {
     uint32_t fault;
+    must(fsync(files.copies) == 0, "nothing is on the disk");
     if (read_kept(files.copies, kept)) {
         settle(files.memory, kept);
         fault = lpt_end_resume_sized(end, &config, kept->state, kept->state_len, sizes, 1);

@@ -233,8 +233,10 @@ class Archive(Handle):
         return f"<Archive{', closed' if self.is_closed else ''}>"
 
     def close(self) -> None:
-        """Frees all its memory, and closes the file that it opened."""
+        """Frees all its memory, lets go of the octets that it was given, and closes the file that it
+        opened."""
         super().close()
+        self._octets = None
         if self._is_own and self._file is not None:
             self._file.close()
 
@@ -462,7 +464,7 @@ class Archive(Handle):
 
         def read(_at: int) -> int:
             if self._file is not None:
-                chunks.append(reader_of(self._file)(_CHUNK) or b"")
+                chunks.append(reader_of(self._file)(_CHUNK))
             return 0
 
         self._done(read)

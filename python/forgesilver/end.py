@@ -154,7 +154,7 @@ class End(Handle):
     raises ValueError.
     """
 
-    __slots__ = ("config", "side", "_length", "_report")
+    __slots__ = ("config", "side", "_length", "_longest", "_report")
     _noun, _free = "the end", staticmethod(_end.lpt_end_free)
 
     def __init__(
@@ -183,6 +183,8 @@ class End(Handle):
         self._report: Optional[tuple[Name, int]] = None
         self.side, self.config = Side(side), of_kind(Config() if config is None else config, Config)
         made = _config_of(self.config)
+        # The octets of the longest packet to be sent.
+        self._longest = made.part_size + 23
         memories = {} if memories is None else memories
         listed, content = _memories_of(memories)
         given = Given(content)
@@ -297,7 +299,7 @@ class End(Handle):
     def first(self) -> Optional[bytes]:
         """A copy of the next packet to be sent; None if there is none. It stays the next one until
         `sent`."""
-        return self._copied(_end.lpt_end_outgoing, Room(self.config.part_size + 23))
+        return self._copied(_end.lpt_end_outgoing, Room(self._longest))
 
     def sent(self) -> None:
         """Drops the next packet to be sent, because it was sent. Raises `Nothing`."""
@@ -306,7 +308,7 @@ class End(Handle):
     def outgoing(self) -> Iterator[bytes]:
         """Yields the packets that wait to be sent, in order. Each is dropped only when the loop asks for
         the next one: if an exception or `break` ends the loop, its packet still waits."""
-        room = Room(self.config.part_size + 23)
+        room = Room(self._longest)
         while True:
             packet = self._copied(_end.lpt_end_outgoing, room)
             if packet is None:
@@ -369,6 +371,7 @@ class End(Handle):
         """Reads and executes all requests that were released, and yields the packets to be sent, as
         `outgoing` does: what waited before, reports, and the parts of reports that are too long for
         a packet. If an exception or `break` ends the loop, the next `serve` continues with its packet.
+        You may feed packets in the loop: it also executes what they release.
 
         It finishes the messages of such reports, so their lost parts can't be made again. If the
         network loses packets, use `keep_open`: then `senders` has the messages, `parts` makes parts
@@ -378,17 +381,22 @@ class End(Handle):
         If you save the state, take all packets before you send one:
         `packets = list(end.serve())`. Then save the state and the memories in one write, and send
         the packets."""
-        while self.read():
-            pass
+        self._read_all()
         yield from self.outgoing()
         while True:
             yield from self._report_parts(keep_open)
+            self._read_all()
             applied = self.execute()
             if applied is None:
                 return
             if applied.name is not None:
                 self._report = applied.name, 1
             yield from self.outgoing()
+
+    def _read_all(self) -> None:
+        """Reads all requests that were released."""
+        while self.read():
+            pass
 
     def _report_parts(self, keep_open: bool) -> Iterator[bytes]:
         """The parts of the report that `serve` sends, from the next one on. Then it finishes it, unless
@@ -422,7 +430,7 @@ class End(Handle):
             raise Range(f"the area ends at {start + room.len}, and the memory has {size} octets")
         if self._unless(_NOTHING, call):
             return None
-        room.needed.value = area.length
+        room.needed.value = room.len
         return room.octets()
 
     # ---- the clock, names, and a restart ----

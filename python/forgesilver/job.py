@@ -83,7 +83,8 @@ class Job(Handle):
         of_kind(request, (Load, Dump, Check))
         kind, place = _KINDS[type(request)], _library.POINTER()
         what, least = f"the part size of a {kind.name.lower()}", _LEAST[kind]
-        self.request, self._most = request, number(part_size, 1024, what, least) + 23
+        part_size = number(part_size, 1024, what, least)
+        self.request, self._most = request, part_size + 23
         flags = Acknowledge.NONE
         if kind is JobKind.LOAD:
             flags = Acknowledge.COMPLETION | (Acknowledge.START if starts else Acknowledge.NONE)

@@ -180,21 +180,29 @@ def _cut_at(at: int) -> More:
 
 def _read_all(file: BinaryIO, size: int) -> bytes:
     """So many octets of a file, or fewer where it ends."""
-    found = file.read(size)
-    while found is not None and 0 < len(found) < size:
-        more = file.read(size - len(found))
+    found = _returned(file.read(size))
+    while 0 < len(found) < size:
+        more = _returned(file.read(size - len(found)))
         if not more:
             break
         found += more
-    return found or b""
+    return found
 
 
-def reader_of(file: BinaryIO) -> Callable[[int], Optional[bytes]]:
-    """What reads so many octets of a file, or fewer if no more have come yet."""
+def _returned(octets: Optional[bytes]) -> bytes:
+    """The octets that a file's read returned; BlockingIOError if it returned None."""
+    if octets is None:
+        raise BlockingIOError("the file has no octets now, and doesn't wait for them")
+    return octets
+
+
+def reader_of(file: BinaryIO) -> Callable[[int], bytes]:
+    """What reads so many octets of a file, or fewer if no more have come yet; BlockingIOError if none
+    have come, and the file doesn't wait for them."""
     read = getattr(file, "read1", None) or getattr(file, "read", None)
     if read is None:
         raise TypeError(f"{file!r:.80} has neither octets nor a file's read")
-    return read  # type: ignore[no-any-return]
+    return lambda size: _returned(read(size))
 
 
 def sound_packets_of(stream: Union[Octets, BinaryIO]) -> Iterator[memoryview]:
@@ -220,7 +228,7 @@ def sound_packets_of(stream: Union[Octets, BinaryIO]) -> Iterator[memoryview]:
             return
         else:
             came = read(_LOOKAHEAD)
-            view, at, read = memoryview(bytes(front) + (came or b"")), 0, read if came else None
+            view, at, read = memoryview(bytes(front) + came), 0, read if came else None
 
 
 def find_piece(

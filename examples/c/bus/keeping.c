@@ -10,7 +10,7 @@
 #include <sys/mman.h>
 #include <unistd.h>
 
-enum { PIECE = 512, SLOT = 8192, PAGE = 4096 };
+enum { PIECE = 512, SLOT = 8192 };
 
 /* A copy: behind it are its number once more, and a checksum of all. */
 typedef struct Copy {
@@ -45,13 +45,15 @@ uint8_t *mapped(const char *folder, const char *name, size_t len) {
     must(file >= 0 && ftruncate(file, (off_t)len) == 0, "no file");
     at = mmap(NULL, len, PROT_READ | PROT_WRITE, MAP_SHARED, file, 0);
     must(at != MAP_FAILED && close(file) == 0, "nothing is mapped");
+    /* The last process may have ended before what it wrote was on the medium. */
+    must(msync(at, len, MS_SYNC) == 0, "nothing is on the medium");
     return at;
 }
 
 uint8_t *mapped_copies(const char *folder) { return mapped(folder, "kept", (size_t)2 * SLOT); }
 
 void write_pieces(uint8_t *to, const uint8_t *octets, size_t len) {
-    const size_t before = (size_t)((uintptr_t)to % PAGE);
+    const size_t page = (size_t)sysconf(_SC_PAGESIZE), before = (size_t)((uintptr_t)to % page);
     size_t at, size;
     for (at = 0; at < len; at += size) {
         size = len - at < PIECE ? len - at : PIECE;

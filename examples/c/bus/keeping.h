@@ -30,7 +30,7 @@ typedef struct Kept {
 /* Ends the program if something isn't so. */
 void must(bool is_so, const char *what);
 
-/* Maps a file of the folder, and returns its octets. */
+/* Maps a file of the folder, and returns its octets, which are on the medium. */
 uint8_t *mapped(const char *folder, const char *name, size_t len);
 
 /* Maps the copies in a folder. */

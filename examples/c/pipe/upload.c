@@ -1,7 +1,7 @@
 /*
- * A ground program that loads a file into memory 1 of a spacecraft, at an address, under a source
- * that no job had before. It writes its packets to standard output, reads reports from standard
- * input, and ends with status 0 once each load was reported as completed:
+ * A ground program that loads a file of up to 4 MiB into memory 1 of a spacecraft, at an address,
+ * under a source that no job had before. It writes its packets to standard output, reads reports
+ * from standard input, and ends with status 0 once each load was reported as completed:
  *
  *   mkfifo down
  *   ./upload image 0 7 < down | lpt link --lose 20% --seed 3 \
@@ -25,7 +25,7 @@
 enum { APID = 100, PART_SIZE = 256, LONGEST = PART_SIZE + 23, MEMORY = 1, TRIES = 20 };
 enum { WAIT_MS = 1000, END_MS = 10000, MOST = 16384 * PART_SIZE };
 
-static uint8_t image[MOST];
+static uint8_t image[MOST + 1]; /* so that a longer file is seen to be too long */
 static LptGround *pass = NULL;
 static bool hears = true;
 
@@ -37,9 +37,25 @@ static void must(bool is_so, const char *what) {
     }
 }
 
-/* Reads the octets that have come, and hands each whole packet to the pass. */
+/* Hands the packet at the front of some octets to the pass; skips it if it is idle. Returns its
+   length, or 0 if it hasn't come whole. */
+static size_t take(const uint8_t *octets, size_t octets_len) {
+    size_t len = 0;
+    const uint32_t fault = lpt_packet_length(octets, octets_len, &len);
+    const bool is_packet = fault == LPT_DONE, is_idle = fault == LPT_E_IDLE;
+    must(is_packet || is_idle || octets_len < 6U, "standard input has no packets");
+    if (!(is_packet || is_idle) || len > octets_len) {
+        return 0;
+    }
+    if (is_packet) {
+        must(lpt_ground_packet(pass, octets, len) == LPT_DONE, "a packet isn't taken");
+    }
+    return len;
+}
+
+/* Reads the octets that have come, and takes each whole packet. */
 static void hear(void) {
-    static uint8_t came[2 * LONGEST];
+    static uint8_t came[LPT_LONGEST_PACKET];
     static size_t came_len;
     size_t at = 0, len = 0;
     ssize_t n = read(STDIN_FILENO, came + came_len, sizeof came - came_len);
@@ -49,13 +65,12 @@ static void hear(void) {
         must(lpt_ground_close(pass) == LPT_DONE, "the pass isn't closed");
     }
     came_len += n > 0 ? (size_t)n : 0;
-    while (lpt_packet_length(came + at, came_len - at, &len) == LPT_DONE && len <= came_len - at) {
-        must(lpt_ground_packet(pass, came + at, len) == LPT_DONE, "a packet isn't taken");
+    do {
+        len = take(came + at, came_len - at);
         at += len;
-    }
+    } while (len > 0U);
     came_len -= at;
     memmove(came, came + at, came_len);
-    must(came_len < sizeof came, "standard input has no packets");
 }
 
 /* Waits until a packet comes, or for a while. */
@@ -93,17 +108,27 @@ static void send_next(void) {
     }
 }
 
+/* Reads a number as C writes it. Ends the program if it is none, or greater than it may be. */
+static uint32_t number_of(const char *word, uint32_t most, const char *what) {
+    char *end = NULL;
+    const unsigned long long value = strtoull(word, &end, 0);
+    must(word[0] >= '0' && word[0] <= '9' && end[0] == '\0' && value <= most, what);
+    return (uint32_t)value;
+}
+
 /* Makes the pass that loads a file. */
-static void begin(const char *path, unsigned long address, unsigned long source) {
+static void begin(const char *path, uint32_t address, uint16_t source) {
     static const LptJob load = {LPT_JOB_LOAD, MEMORY, 8, APID, 0, 0, PART_SIZE, TRIES};
     FILE *file = fopen(path, "rb");
-    LptPlace place = {(uint32_t)address, 0};
+    LptPlace place = {address, 0};
     LptJob job = load;
+    uint32_t fault;
     must(file != NULL, "the file can't be opened");
-    place.len = (uint32_t)fread(image, 1, MOST, file);
+    place.len = (uint32_t)fread(image, 1, sizeof image, file);
     must(ferror(file) == 0 && fclose(file) == 0, "the file can't be read");
-    job.source = (uint16_t)source;
-    must(lpt_ground_new(&pass, &job, &place, 1, image, place.len) == LPT_DONE, "this is no job");
+    job.source = source;
+    fault = lpt_ground_new(&pass, &job, &place, 1, image, place.len);
+    must(fault == LPT_DONE, lpt_fault_name(fault));
 }
 
 int main(int count, char **words) {
@@ -112,7 +137,8 @@ int main(int count, char **words) {
     unsigned long packets = 0;
     struct pollfd in = {STDIN_FILENO, POLLIN, 0};
     must(count == 4, "upload FILE ADDRESS SOURCE");
-    begin(words[1], strtoul(words[2], NULL, 0), strtoul(words[3], NULL, 0));
+    begin(words[1], number_of(words[2], UINT32_MAX, "ADDRESS is no number of 32 bits"),
+          (uint16_t)number_of(words[3], UINT16_MAX, "SOURCE is no number of 16 bits"));
     must(fcntl(STDOUT_FILENO, F_SETFL, O_NONBLOCK) == 0, "standard output is none");
     while (step < LPT_STEP_COMPLETED) {
         must(lpt_ground_next(pass, &step) == LPT_DONE, "the pass has no step");
