@@ -119,10 +119,10 @@ class Watch:
 def run(kept, name, command, watch):
     """Runs a command, keeps what it cost, and gives its status."""
     child = subprocess.Popen(command)
-    # Whoever ends this ends the command.
+    # Whoever ends this ends the command, also by Ctrl-C, which a command in a script's background ignores.
     for number in (signal.SIGTERM, signal.SIGHUP):
         signal.signal(number, lambda number, _: child.send_signal(number))
-    signal.signal(signal.SIGINT, lambda *_: None)
+    signal.signal(signal.SIGINT, lambda *_: child.terminate())
     trouble = None
     while True:
         try:
