@@ -22,6 +22,7 @@ import hashlib
 import os
 import pathlib
 import re
+import shlex
 import shutil
 import subprocess
 import sys
@@ -147,13 +148,13 @@ def declared(header: pathlib.Path) -> list[str]:
     return sorted(set(re.findall(r"\b(lpt_\w+)\([^()]*\);", text)))
 
 
-def shared(top: pathlib.Path, library: Library, compiler: str, folder: pathlib.Path) -> None:
+def shared(top: pathlib.Path, library: Library, compiler: list[str], folder: pathlib.Path) -> None:
     """Links the shared library of an archive in a folder: it exports what the header declares alone, and
     its code can't be written to, nor its stack or what the loader has filled in be executed or changed."""
     header, name = top / f"include/{library.name}.h", f"lib{library.name}.so.0"
     script = folder / f"{name}.exports"
     script.write_text(f"{{ global: {' '.join(f'{it};' for it in declared(header))} local: *; }};\n")
-    words = [compiler, "-shared", "-O2", "-fPIC", "-fvisibility=hidden", f"-I{top}/include"]
+    words = [*compiler, "-shared", "-O2", "-fPIC", "-fvisibility=hidden", f"-I{top}/include"]
     words += [str(top / it) for it in library.sources]
     words += ["-Wl,--whole-archive", str(folder / f"lib{library.name}.a"), "-Wl,--no-whole-archive"]
     words += [f"-Wl,-soname,{name}", f"-Wl,--version-script={script}", "-Wl,--no-undefined-version"]
@@ -183,7 +184,7 @@ def package(top: pathlib.Path, library: Library, place: str, version: str, folde
 def sums(top: pathlib.Path, room: pathlib.Path | None = None) -> str:
     """A checksum of all that the libraries are made of, with the crates of a room if one is given."""
     crates = room or top
-    places = [(top, it) for it in ("include", "examples/c/memory", "docs/help/version")]
+    places = [(top, it) for it in ("include", "examples/c/memory", "docs/help/version", "tools/archive.py")]
     places += [(crates, f"crates/{it}/{part}") for it in with_below(crates) for part in ("src", "specs")]
     files = [(it.relative_to(of), it) for of, place in places for it in (of / place, *(of / place).rglob("*"))]
     found = (f"{name} {hashlib.sha256(it.read_bytes()).hexdigest()}\n" for name, it in sorted(files) if it.is_file())
@@ -196,14 +197,14 @@ def build(room: pathlib.Path, top: pathlib.Path, name: str = "x86_64") -> None:
     processor = PROCESSORS[name]
     to = top / "build" / processor.folder
     to.mkdir(parents=True, exist_ok=True)
-    compiler = os.environ.get("CC", processor.compiler)
+    compiler = shlex.split(os.environ.get("CC") or processor.compiler)
     with tempfile.TemporaryDirectory(dir=to, prefix="room.") as made:
         folder = pathlib.Path(made)
         (folder / "sums").write_text(sums(top, room), encoding="utf-8")
         with ThreadPoolExecutor() as pool:
             list(pool.map(lambda it: archive(room, it, processor, folder / f"lib{it.name}.a"), LIBRARIES))
         for library in LIBRARIES:
-            if name == "x86_64" or shutil.which(compiler):
+            if name == "x86_64" or shutil.which(compiler[0]):
                 shared(top, library, compiler, folder)
             package(top, library, str(pathlib.PurePosixPath("build") / processor.folder), version_of(top), folder)
         for file in sorted(folder.iterdir(), key=lambda it: it.name == "sums"):
@@ -213,7 +214,8 @@ def build(room: pathlib.Path, top: pathlib.Path, name: str = "x86_64") -> None:
 def is_built(top: pathlib.Path, name: str = "x86_64") -> bool:
     """Whether the libraries for a processor are there, of what they would be made of now."""
     made = top / "build" / PROCESSORS[name].folder / "sums"
-    return made.is_file() and made.read_text(encoding="utf-8") == sums(top)
+    are_there = all((made.parent / f"lib{it.name}.a").is_file() for it in LIBRARIES)
+    return are_there and made.is_file() and made.read_text(encoding="utf-8") == sums(top)
 
 
 def built(top: pathlib.Path, name: str = "x86_64") -> pathlib.Path:

@@ -1,7 +1,8 @@
 // Has one read or one write fail: that whose number, from 1, is FAILING_READ or FAILING_WRITE in
 // the environment; with FROM_THEN_ON each write behind it too. With TAKES_NOTHING a write takes
 // nothing in place of failing. With OCTET_READS each read gives one octet at most, with OCTET_WRITES
-// each write takes one at most. Of writes only those to standard output are meant.
+// each write takes one at most. Of writes only those to standard output are meant. With DYING_WRITE
+// the process is killed before the write of that number, to whatever file.
 //
 // tests/streams loads this before the C library into the program, which reads and writes by the two
 // functions here.
@@ -13,11 +14,14 @@ extern int *__errno_location(void);
 
 #define READ 0
 #define WRITE 1
+#define GET_NUMBER 39
+#define KILL 62
 #define STANDARD_OUTPUT 1
+#define KILLED 9L
 #define INPUT_OUTPUT_ERROR 5
 
-// How many reads there were, and how many writes.
-static long reads, writes;
+// How many reads there were, how many writes, and how many of these to any file.
+static long reads, writes, all;
 
 static long number_in(const char *name) {
     const char *digits = getenv(name);
@@ -37,6 +41,9 @@ long read(int file, void *place, unsigned long size) {
 }
 
 long write(int file, const void *place, unsigned long size) {
+    if (++all == number_in("DYING_WRITE")) {
+        syscall(KILL, syscall(GET_NUMBER), KILLED);
+    }
     if (file != STANDARD_OUTPUT) {
         return syscall(WRITE, file, place, size);
     }

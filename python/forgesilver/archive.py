@@ -181,7 +181,7 @@ class Archive(Handle):
     """
 
     __slots__ = (
-        "_file", "_has_begun", "_headers", "_is_own", "_is_over", "_missing", "_octets", "_part_size",
+        "_chunk", "_file", "_has_begun", "_headers", "_is_own", "_is_over", "_missing", "_octets", "_part_size",
         "_text",
     )
     _noun, _free = "the archive", staticmethod(_reader.lpt_reader_free)
@@ -206,6 +206,7 @@ class Archive(Handle):
         self._headers = headers_of(layout, self._part_size)
         self._file: Optional[BinaryIO] = None
         self._octets: Optional[memoryview] = None
+        self._chunk: Optional[Octets] = None
         self._missing: list[Missing] = []
         self._is_own = self._is_over = self._has_begun = False
         try:
@@ -236,7 +237,7 @@ class Archive(Handle):
         """Frees all its memory, lets go of the octets that it was given, and closes the file that it
         opened."""
         super().close()
-        self._octets = None
+        self._octets = self._chunk = None
         if self._is_own and self._file is not None:
             self._file.close()
 
@@ -381,9 +382,9 @@ class Archive(Handle):
         Raises `Range`, `Allocation`, `faults.Empty`, ValueError if something was read, and what
         opening the file of requests raises.
         """
-        self._started(Direction.DOWN)
         found = Requests()
         with Archive(requests, layout=self._text, part_size=self._part_size) as asked:
+            self._started(Direction.DOWN)
             asked._started(Direction.UP)
             of_requests = asked._looked(Direction.UP, found.ask)
         return found.outcomes(of_requests, self._looked(Direction.DOWN, found.hear))
@@ -443,20 +444,25 @@ class Archive(Handle):
 
     def _feed(self, beside: Optional[Reader]) -> None:
         """Hands over what comes next, or that nothing does."""
-        chunk: Octets
-        if self._octets is not None:
-            chunk, self._octets = self._octets[:_CHUNK], self._octets[_CHUNK:]
-        else:
-            chunk = self._read()
+        chunk = self._comes()
         given = Given(chunk)
         if given.len:
             self._done(_reader.lpt_reader_feed, given.at, given.len)
         else:
             self._done(_reader.lpt_reader_end)
+        self._chunk = None
         if beside is not None and given.len:
             beside.feed(chunk)
         elif beside is not None:
             beside.end()
+
+    def _comes(self) -> Octets:
+        """What comes next. It stays until it is handed over."""
+        if self._chunk is None and self._octets is not None:
+            self._chunk, self._octets = self._octets[:_CHUNK], self._octets[_CHUNK:]
+        elif self._chunk is None:
+            self._chunk = self._read()
+        return self._chunk
 
     def _read(self) -> bytes:
         """The next octets of the file. While they are read no call of the archive is taken."""

@@ -14,9 +14,9 @@
 
 enum { CYCLE_NS = 1000000 };
 
-static volatile sig_atomic_t asked; /* the last signal */
+static volatile sig_atomic_t asked; /* the last signal, but SIGTERM stays */
 
-static void note_signal(int which) { asked = which; }
+static void note_signal(int which) { asked = asked == SIGTERM ? SIGTERM : which; }
 
 bool is_over(void) { return asked != 0; }
 
