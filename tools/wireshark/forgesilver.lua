@@ -105,6 +105,7 @@ local e = {
     checksum = ProtoExpert.new("pus.wrong_checksum", "Wrong checksum", expert.group.CHECKSUM, ERROR),
     area = ProtoExpert.new("pus.wrong_area_checksum", "Wrong checksum of an area", expert.group.CHECKSUM, ERROR),
     fault = ProtoExpert.new("pus.fault", "No packet", MALFORMED, ERROR),
+    other = ProtoExpert.new("pus.other", "Packet that isn't read", expert.group.UNDECODED, NOTE),
     unread = ProtoExpert.new("pus.unread", "Unread body", MALFORMED, ERROR),
     layout = ProtoExpert.new("pus.layout_refused", "Refused layout", MALFORMED, ERROR),
     failed = ProtoExpert.new("pus.failed", "Failed request", expert.group.RESPONSE_CODE, WARN),
@@ -175,7 +176,7 @@ local function is_moment(text)
     if not day then return is_time(text) end
     local hours, minutes = time:match("[+-](%d%d):(%d%d)$")
     if hours and (tonumber(hours) > 23 or tonumber(minutes) > 59) then return false end
-    return is_day(day) and is_time((time:gsub("[Zz]$", ""):gsub("[+-]%d%d:%d%d$", "")))
+    return is_day(day) and is_time(time:match("^(.*)[Zz]$") or (time:gsub("[+-]%d%d:%d%d$", "")))
 end
 
 -- These digits, of which two may have an underscore between them, without underscores and zeros in front.
@@ -290,7 +291,11 @@ local function text_in(it)
             return table.concat(found)
         end
         if quote == '"' and it.take("\\") then
-            if not (is_long and it.take("[ \t]*\r?\n[ \t\r\n]*")) then found[#found + 1] = escaped(it) end
+            if is_long and it.take("[ \t]*\r?\n") then
+                repeat it.blanks() until not it.take("\r?\n")
+            else
+                found[#found + 1] = escaped(it)
+            end
         else
             found[#found + 1] = is_long and it.take("\r?\n") or it.need("([^\n\r%z\1-\8\11\12\14-\31\127])")
         end
@@ -500,12 +505,19 @@ local function line_of(text, name, key)
     return found
 end
 
+-- Whether a name stands before another by their octets, whatever the locale.
+local function is_before(one, other)
+    local at = 1
+    while one:byte(at) and one:byte(at) == other:byte(at) do at = at + 1 end
+    return (one:byte(at) or -1) < (other:byte(at) or -1)
+end
+
 -- The first key, in the order of names, that is none of these.
 local function unknown_in(values, known)
     local names, first = {}, nil
     for _, it in ipairs(known) do names[it[1]] = true end
     for name in pairs(values) do
-        if not names[name] and (not first or name < first) then first = name end
+        if not names[name] and (not first or is_before(name, first)) then first = name end
     end
     return first
 end
@@ -611,8 +623,8 @@ local function is_idle(octets)
     return octets:byte(1) % 8 * 256 + octets:byte(2) == IDLE_APID
 end
 
--- The first test that these octets fail as a packet.
-local function fault_of(octets)
+-- The first test that these octets fail as a packet: by the layout of their type, or of this one.
+local function fault_of(octets, kind)
     if #octets < 7 then return SHORT end
     local one, _, three, _, five, six = octets:byte(1, 6)
     if one >= 0x20 then return VERSION end
@@ -620,7 +632,7 @@ local function fault_of(octets)
     if is_idle(octets) then return end
     if three < 0xC0 then return SEGMENTED end
     if one % 16 < 8 then return NO_SECONDARY end
-    if not layouts[math.floor(one / 16) % 2].checksum then return end
+    if not layouts[kind or math.floor(one / 16) % 2].checksum then return end
     local high, low = octets:byte(-2, -1)
     if #octets < 8 or checksum_of(octets:sub(1, -3)) ~= high * 256 + low then return CHECKSUM end
 end
@@ -674,9 +686,12 @@ local function is_sealed_at(cut, at)
     return times(before, cut.powers[last - at + 1]) == cut.registers[last]
 end
 
--- Whether octets in step that fail this test are a packet all the same: its flags alone are why.
-local function is_of_flags(octets, fault)
-    if fault ~= SEGMENTED and fault ~= NO_SECONDARY or #octets < 8 then return false end
+-- Whether octets in step that fail this test are a packet all the same: its flags alone are why, and a checksum
+-- by which the record is cut is right.
+local function is_of_flags(cut, octets, fault)
+    if fault ~= SEGMENTED and fault ~= NO_SECONDARY then return false end
+    if not cut.is_sealed then return true end
+    if #octets < 8 then return false end
     local high, low = octets:byte(-2, -1)
     return checksum_of(octets:sub(1, -3)) == high * 256 + low
 end
@@ -688,21 +703,22 @@ local function next_sealed(cut, at)
     return at
 end
 
--- The place behind the piece that begins here, the first test that it fails as a packet, and whether it is what a
--- header says is one, or octets up to the next packet.
+-- The place behind the piece that begins here, the first test that it fails as a packet, whether it is what a
+-- header says is one, or octets up to the next packet, and whether it is a packet all the same.
 local function piece(cut, at)
     local octets = framed(cut, at)
     local fault = fault_of(octets or cut.octets:sub(at))
     if not fault then return at + #octets, nil, true end
     local after = at + #(octets or "")
-    local is_piece = octets and (cut.is_sealed and (is_of_flags(octets, fault) or after > #cut.octets
-        or is_sealed_at(cut, after)) or not cut.is_sealed and fault ~= VERSION)
-    return is_piece and after or next_sealed(cut, at), fault, is_piece
+    local is_sound = octets and is_of_flags(cut, octets, fault)
+    local is_piece = is_sound or octets and (cut.is_sealed and (after > #cut.octets or is_sealed_at(cut, after))
+        or not cut.is_sealed and fault ~= VERSION)
+    return is_piece and after or next_sealed(cut, at), fault, is_piece, is_sound
 end
 
 -- Why joined octets are no packet of their direction; nothing of one that is.
 local function misfit(octets, is_up)
-    local fault = fault_of(octets)
+    local fault = fault_of(octets, is_up and TELECOMMAND or 0)
     if fault then return "no packet: fault " .. fault .. " " .. FAULTS[fault] end
     local one = octets:byte(1)
     local is_other = (math.floor(one / 16) % 2 == 1) ~= is_up
@@ -715,13 +731,19 @@ local function add(set, part)
     set.parts[part.number], set.count = part, set.count + 1
     set.greatest = math.max(set.greatest, part.number)
     set.places[#set.places + 1] = part.place
+    set.lost = #set.places
     if part.kind == LAST then set.last = part.number else set.size = #part.octets end
 end
 
 local function set_of(part)
-    local set = {parts = {}, places = {}, count = 0, greatest = 0}
+    local set = {parts = {}, places = {}, lost = 0, count = 0, greatest = 0}
     if part then add(set, part) end
     return set
+end
+
+-- Whether a last part may stand behind parts of this size.
+local function may_end(last, size)
+    return #last.octets <= size and (last.number - 1) * size + #last.octets <= LONGEST
 end
 
 -- The part of these that a further one contradicts.
@@ -730,10 +752,10 @@ local function contradicted(set, part)
     local same, last, greatest = parts[part.number], parts[set.last], parts[set.greatest]
     if same then
         return (same.kind ~= part.kind or same.octets ~= part.octets) and same or nil
-    elseif last and (part.kind == LAST or part.number > last.number or #part.octets < #last.octets) then
+    elseif last and (part.kind == LAST or part.number > last.number or not may_end(last, #part.octets)) then
         return last
     elseif part.kind == LAST then
-        return greatest and (part.number < greatest.number or #part.octets > set.size) and greatest or nil
+        return greatest and (part.number < greatest.number or not may_end(part, set.size)) and greatest or nil
     end
     return set.size and set.size ~= #part.octets and greatest or nil
 end
@@ -868,9 +890,9 @@ end
 
 local packet
 
--- The place of a part of a name, which is taken where it is seen first.
+-- The place of a part of a name, which is taken where it is seen first. A frame may have several datagrams.
 local function place_of(name, part, at)
-    local key = at.pinfo.number .. ":" .. at.number
+    local key = table.concat({at.pinfo.number, at.offset, at.number, name, part.number}, ":")
     if not places[key] then
         part.place = {frame = at.pinfo.number, messages = {}}
         courses[name] = courses[name] or {run = set_of(), new = set_of(), is_stale = false}
@@ -880,11 +902,10 @@ local function place_of(name, part, at)
     return places[key]
 end
 
--- The last of these places that is of no message.
+-- The last of these places that is of no message. One that is of a message stays so, and isn't looked at again.
 local function last_lost(set)
-    for at = #set.places, 1, -1 do
-        if #set.places[at].messages == 0 then return set.places[at] end
-    end
+    while set.lost > 0 and #set.places[set.lost].messages > 0 do set.lost = set.lost - 1 end
+    return set.places[set.lost]
 end
 
 -- Tells what is missing behind all frames, or so far at a last part.
@@ -963,6 +984,11 @@ end
 
 -- What bodies are. Each function shows one, and says it in a few words.
 
+-- Tells of a body, unless its packet is damaged.
+local function tell(head, node, item, text)
+    if not head.fault then node:add_proto_expert_info(item, text) end
+end
+
 local function part_body(kind)
     return function(body, head, node, at)
         local tree = node:add(lpt, body)
@@ -988,10 +1014,11 @@ local function part_body(kind)
         tree:add(m.octets, #part.octets):set_generated()
         tree:add(m.data, body(start))
         part.is_up = head.kind == TELECOMMAND
-        local name = string.format("%s %d/%d", part.is_up and "up" or "down", head.peer, body(0, after):uint())
+        local name = string.format("%s %d/%.0f", part.is_up and "up" or "down", head.peer, body(0, after):uint())
         tree:append_text(string.format(", %s, part %d", name, part.number))
         local said = string.format("%s part %d of %s", KINDS[kind], part.number, name)
-        if at.is_joined or head.fault then return said end
+        -- A datagram that an error quotes was sent before.
+        if at.is_joined or head.fault or at.pinfo.in_error_pkt then return said end
         if not layout.checksum then
             tree:add_proto_expert_info(x.alone, "Parts without a checksum are joined by lpt alone")
             return said
@@ -1015,14 +1042,14 @@ local function abort_body(body, head, node, at)
     tree:add(m.reason, body(2, 1))
     local reason = REASONS[body(2, 1):uint()]
     local said = string.format("up %d/%d aborted: %s", head.peer, body(0, 2):uint(), reason)
-    tree:add_proto_expert_info(x.aborted, "The reception was aborted: " .. reason)
+    tell(head, tree, x.aborted, "The reception was aborted: " .. reason)
     return said
 end
 
 local function report_body(what, is_failure)
-    return function(body, _, tree)
+    return function(body, head, tree)
         if body:len() ~= (is_failure and 6 or 4) then
-            tree:add_proto_expert_info(e.unread, "The report isn't read")
+            tell(head, tree, e.unread, "The report isn't read")
             return "report unread"
         end
         local apid, count = body(0, 2):bitfield(5, 11), body(2, 2):bitfield(2, 14)
@@ -1032,14 +1059,14 @@ local function report_body(what, is_failure)
         local code = body(4, 2):uint()
         tree:add(p.failure, body(4, 2))
         local why = string.format("code %d, %s", code, FAILURES[code] or "unknown")
-        tree:add_proto_expert_info(e.failed, what .. " failed: " .. why)
+        tell(head, tree, e.failed, what .. " failed: " .. why)
         return what .. " failed, " .. of .. ": " .. why
     end
 end
 
-local function show_area(octets, length, tree, has_data, has_checksum)
+local function show_area(octets, length, head, tree, has_data, has_checksum)
     local address = octets(0, 4):uint()
-    local area = tree:add(octets, string.format("Area: address %d, %d octets", address, length))
+    local area = tree:add(octets, string.format("Area: address %.0f, %d octets", address, length))
     area:add(p.address, octets(0, 4))
     area:add(p.area_length, octets(4, 2))
     if has_data then area:add(p.area_data, octets(6, length)) end
@@ -1048,12 +1075,12 @@ local function show_area(octets, length, tree, has_data, has_checksum)
     local node = area:add(p.area_checksum, given)
     local right = has_data and checksum_of(octets:raw(6, length)) or given:uint()
     if right ~= given:uint() then
-        node:add_proto_expert_info(e.area, string.format("The area's checksum is 0x%04x", right))
+        tell(head, node, e.area, string.format("The area's checksum is 0x%04x", right))
     end
 end
 
 local function areas_body(what, has_data, has_checksum)
-    return function(body, _, tree)
+    return function(body, head, tree)
         local at, count, length = 2, body:len() >= 2 and body(1, 1):uint() or 0, nil
         if body:len() >= 2 then
             tree:add(p.memory, body(0, 1))
@@ -1064,12 +1091,15 @@ local function areas_body(what, has_data, has_checksum)
             length = at + 6 <= body:len() and body(at + 4, 2):uint() or 0
             local size = 6 + (has_data and length or 0) + (has_checksum and 2 or 0)
             is_read = length > 0 and at + size <= body:len()
-            if not is_read then break end
-            show_area(body(at, size), length, tree, has_data, has_checksum)
+            if not is_read then
+                if length > 0 then show_area(body(at), length, head, tree) end
+                break
+            end
+            show_area(body(at, size), length, head, tree, has_data, has_checksum)
             at = at + size
         end
         if not is_read or at < body:len() then
-            tree:add_proto_expert_info(e.unread, "The body of " .. body:len() .. " octets isn't read")
+            tell(head, tree, e.unread, "The body of " .. body:len() .. " octets isn't read")
             return what .. " unread"
         end
         return string.format("%s of memory %d, %d area%s", what, body(0, 1):uint(), count, count > 1 and "s" or "")
@@ -1138,9 +1168,10 @@ local function report_header(field, node, layout)
     return user > 0 and field(3 + counter, user):uint() or 0
 end
 
-local function show_fault(fault, tree)
+local function show_fault(fault, tree, is_packet)
+    local what = is_packet and "The packet isn't read: " or "The octets aren't read as a packet: "
     tree:add(p.fault, fault):set_generated()
-    tree:add_proto_expert_info(e.fault, "The octets aren't read as a packet: " .. FAULTS[fault])
+    tree:add_proto_expert_info(is_packet and e.other or e.fault, what .. FAULTS[fault])
     return "fault " .. fault .. " " .. FAULTS[fault]
 end
 
@@ -1150,7 +1181,7 @@ local function data_field(field, head, tree, at)
     local size = head_size(layout)
     local fault = (not field or field:len() < size) and SHORT_HEADER
         or field(0, 1):bitfield(0, 4) ~= layout.version and PUS_VERSION
-    if fault then return head.fault and "" or show_fault(fault, tree) end
+    if fault then return head.fault and "" or show_fault(fault, tree, true) end
     local node = tree:add(field(0, size), "PUS header")
     node:add(p.pus, field(0, 1))
     head.peer = (is_command and command_header or report_header)(field, node, layout)
@@ -1170,14 +1201,14 @@ local function data_field(field, head, tree, at)
 end
 
 -- Shows a packet, or octets that fail this test of one, and says what they are. `at` is where they stand: the
--- frame, the root of its tree and the packet's number there, and whether its header says where it ends; or a message
--- that was joined.
+-- frame, the root of its tree, where the record or datagram begins there and the packet's number in that, whether its
+-- header says where it ends, and whether it is a packet all the same; or a message that was joined.
 function packet(octets, fault, at)
     local tree = at.root:add(pus, octets)
     if at.is_joined then tree:append_text(", joined") end
     tree:add(p.length, octets:len()):set_generated()
     local head = octets:len() >= 7 and primary_header(octets, tree)
-    if fault and (fault ~= CHECKSUM or not at.is_piece) then return show_fault(fault, tree) end
+    if fault and (fault ~= CHECKSUM or not at.is_piece) then return show_fault(fault, tree, at.is_sound) end
     if head.apid == IDLE_APID then
         tree:add(p.idle, true):set_generated()
         return "idle packet"
@@ -1209,8 +1240,9 @@ function pus.dissector(tvb, pinfo, root)
         return tvb:len()
     end
     while at <= #cut.octets do
-        local after, fault, is_piece = piece(cut, at)
-        local where = {pinfo = pinfo, root = root, number = #said, is_piece = is_piece}
+        local after, fault, is_piece, is_sound = piece(cut, at)
+        local where = {pinfo = pinfo, root = root, offset = tvb:offset(), number = #said}
+        where.is_piece, where.is_sound = is_piece, is_sound
         said[#said + 1] = packet(tvb(at - 1, after - at), fault, where)
         at = after
     end
