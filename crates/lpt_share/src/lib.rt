@@ -27,6 +27,7 @@ pub use lpt_events::{
     Answer, Config, Event, Lane, Outcome, SeatLog, Side, StepFault, Turns, Worker,
 };
 pub use lpt_packet::{Direction, Name, Octets};
+pub use lpt_share_audit::agrees;
 pub use lpt_world::World;
 pub use run::{ShareEnd, run_threads};
 pub use turns::{Gate, Point};

@@ -4,6 +4,8 @@ use Rattle.lpt_text.specs.declared.fault.StreamFault.{StreamFault}
 use Rattle.lpt_text.specs.declared.fault.StreamFault.TheVariants as streams
 use Rattle.lpt_script.specs.declared.fault.ScriptFault.{ScriptFault}
 use Rattle.lpt_script.specs.declared.fault.ScriptFault.TheVariants as scripts
+use Rattle.lpt_settings.specs.declared.fault.SettingsFault.{SettingsFault}
+use Rattle.lpt_settings.specs.declared.fault.SettingsFault.TheVariants as settings
 use Rattle.lpt_tool.specs.declared.fault.ToolFault.{ToolFault}
 use Rattle.lpt_tool.specs.declared.fault.ToolFault.TheVariants.{Read, Write, Line, Memory, Config, Threads}
 
@@ -36,6 +38,11 @@ abbrev pub of_script : ScriptFault → ToolFault
 of_script (scripts.Stream fault) = of_stream fault
 of_script (scripts.Line number) = Line number
 of_script scripts.Config = Config
+
+-- the fault of a configuration
+abbrev pub of_settings : SettingsFault → ToolFault
+of_settings settings.Config = Config
+of_settings settings.Memory = Memory
 
 -- what work on a stream gives, in the words of the tool
 abbrev pub of_streams : {A : Type 0} → Result A StreamFault → Result A ToolFault

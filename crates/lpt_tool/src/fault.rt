@@ -1,10 +1,11 @@
 //! Why a run of the tool ends before its work is done.
 
 ghost use Rattle.std.specs.Prelude.{◌≡◌};
-ghost use Rattle.lpt_tool.specs.Faults.{code_of, name_of, of_script, of_stream};
+ghost use Rattle.lpt_tool.specs.Faults.{code_of, name_of, of_script, of_settings, of_stream};
 ghost use Rattle.lpt_tool.specs.declared.fault.ToolFault.TheVariants.{Threads};
 
 use lpt_script::ScriptFault;
+use lpt_settings::SettingsFault;
 use lpt_share::ShareFault;
 use lpt_text::StreamFault;
 use thiserror::Error;
@@ -82,6 +83,17 @@ impl From<ScriptFault> for ToolFault {
             ScriptFault::Stream(fault) => ToolFault::from(fault),
             ScriptFault::Line(number) => ToolFault::Line(number),
             ScriptFault::Config => ToolFault::Config,
+        }
+    }
+}
+
+impl From<SettingsFault> for ToolFault {
+    ghost from_gives = { λ fault told. told ≡ of_settings fault };
+
+    fn from(fault: SettingsFault) -> ToolFault {
+        match fault {
+            SettingsFault::Config => ToolFault::Config,
+            SettingsFault::Memory => ToolFault::Memory,
         }
     }
 }

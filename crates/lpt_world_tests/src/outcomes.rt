@@ -5,9 +5,8 @@ use lpt_events::{Outcome, Turns, Why};
 use lpt_packet::Direction;
 use lpt_part::Reason;
 use lpt_script_text::print_outcome;
-use lpt_settings::{SettingsFault, read_config};
 use lpt_share::ShareFault;
-use lpt_tool::ToolFault;
+use lpt_tool::{ToolFault, read_config};
 use std::alloc::{AllocError, Global};
 use std::test::Fail;
 
@@ -113,10 +112,11 @@ fn reads_how_much_threads_do(rt: HostRuntime) {
     for (text, turns) in &THREADS {
         assert!(rt; turns_in(rt.alloc(), text) == Ok(*turns), "{text}");
     }
+    assert!(rt; turns_in(rt.alloc(), "part_size = 3") == Err(ToolFault::Config));
 }
 
 // How much the threads of a text do.
-fn turns_in(alloc: Global, text: &str) -> Result<Turns, SettingsFault> {
+fn turns_in(alloc: Global, text: &str) -> Result<Turns, ToolFault> {
     let (_, _, turns) = read_config(alloc, text)?;
     Ok(turns)
 }
