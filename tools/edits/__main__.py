@@ -86,20 +86,21 @@ def tried(order: list[str], ready: Ready, trial: Callable[[str], Verdicts]) -> I
 
 def main(room: pathlib.Path, names: list[str], how: How, log: Optional[pathlib.Path]) -> int:
     """Tries the edits of these crates, or of all, those with most edits first."""
-    known, place = libraries(room), store()
+    known = libraries(room)
     folders = {it: TOOLS.parent / "crates" / it / "must-fail" for it in names or known}
     folders = {name: folder for name, folder in folders.items() if folder.is_dir()}
     order = sorted(folders, key=lambda it: -len(os.listdir(folders[it])))
     passed = failed = kept = 0
 
     def trial(name: str) -> Verdicts:
-        return verdicts(Crate(room, name, known), folders[name], how, place)
+        # On a new machine `rt ci` makes the store while it is at work.
+        return verdicts(Crate(room, name, known), folders[name], how, store())
 
     for name, verdict in tried(order, Ready(log), trial):
         print(f"must-fail {name}: {verdict.reason}{' (kept)' if verdict.is_kept else ''}", flush=True)
         passed, failed = passed + verdict.is_refused, failed + (not verdict.is_refused)
         kept += verdict.is_kept
-    shrink(place)
+    shrink(store())
     print(f"edits: {passed + failed - kept} were tried, and {kept} were refused by an earlier run on this machine")
     print(f"edits: {passed} passed, {failed} failed")
     return 1 if failed or not passed else 0

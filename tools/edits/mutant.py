@@ -54,6 +54,8 @@ class Change:
 class Written:
     """What an edit's file says."""
 
+    # All that stands there.
+    text: str
     changes: list[Change]
     # The functions that are to refuse it, where it names them.
     refused: list[str]
@@ -67,8 +69,8 @@ def read(file: pathlib.Path) -> Written:
     """Reads an edit's file."""
     if not FILE_NAME.fullmatch(file.name):
         raise BadEdit("its name is none of an edit")
-    path, old, said = "", "", Written([], [], [], [])
-    for line in file.read_text(encoding="utf-8").split("\n"):
+    path, old, said = "", "", Written(file.read_text(encoding="utf-8"), [], [], [], [])
+    for line in said.text.split("\n"):
         word, _, rest = line.partition(":")
         if word == "file":
             path = rest.strip()
@@ -107,12 +109,14 @@ class Mutant:
     open: Optional[str] = None
     # What the name of a copy adds to the function's, where one is mutated in its place (copies.py).
     copy: str = ""
+    # What stood in its file when it was read: that is tried, whatever stands there by now.
+    written: str = ""
 
     @classmethod
     def of(cls, crate: Crate, file: pathlib.Path) -> Mutant:
         """The mutant that an edit's file makes."""
         said = read(file)
-        mutant = cls(crate, file, said.changes, set(), bool(said.refused), True)
+        mutant = cls(crate, file, said.changes, set(), bool(said.refused), True, written=said.text)
         mutant.functions.update(map(mutant.whole, said.refused))
         texts: dict[str, str] = {}
         for change in said.changes:
@@ -145,8 +149,8 @@ class Mutant:
 
     @property
     def text(self) -> tuple[str, str]:
-        """Its file's name, and what stands there."""
-        return self.file.name, self.file.read_text(encoding="utf-8")
+        """Its file's name, and what stood there when it was read, or was noted since."""
+        return self.file.name, self.written
 
     def mark(self) -> str:
         """The mark of what it changes, of its functions and of what is written of their proofs, and of all
@@ -157,11 +161,13 @@ class Mutant:
         return hashlib.sha256("\n".join(texts).encode()).hexdigest()[:8]
 
     def note(self) -> None:
-        """Writes down in its file which goal was open."""
-        lines = self.file.read_text(encoding="utf-8").splitlines()
-        lines = [it for it in lines if not it.startswith("goal:")]
+        """Writes down in its file which goal was open, unless something else stands there by now."""
+        if self.file.read_text(encoding="utf-8") != self.written:
+            return
+        lines = [it for it in self.written.splitlines() if not it.startswith("goal:")]
         lines.append(f"goal: {self.open} {self.mark()}")
-        self.file.write_text("\n".join(lines) + "\n", encoding="utf-8")
+        self.written = "\n".join(lines) + "\n"
+        self.file.write_text(self.written, encoding="utf-8")
 
     def whole(self, name: str) -> str:
         """The whole name of a function."""

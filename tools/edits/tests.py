@@ -197,6 +197,11 @@ def wrongly_kept(crate: Crate, folder: pathlib.Path, store: pathlib.Path) -> lis
     verdicts(crate, one, How.NOTE, store)
     if not Mutant.of(crate, edit).noted:
         wrong.append("a line that doesn't fit stands")
+    mutant = Mutant.of(crate, edit)
+    edit.write_text("", encoding="utf-8")
+    mutant.note()
+    if not mutant.text[1] or edit.read_text(encoding="utf-8"):
+        wrong.append("what was changed since it was read")
     return wrong
 
 
