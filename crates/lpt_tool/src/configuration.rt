@@ -11,9 +11,11 @@ use lpt_events::{Config, Turns};
 use lpt_memory::Memories;
 use std::alloc::Global;
 
-/// Reads a configuration and the first memories, as `lpt_settings::read_config` does.
+/// Reads a configuration and the first memories, as `lpt_settings::read_config` does: a TOML
+/// document of the keys, ranges and defaults that lpt_settings lists.
 ///
-/// Errors: those of that function.
+/// Errors: `Config` if the text is refused, or the reader of TOML runs out of memory; `Memory` if
+/// there is none for the memories of a text that isn't refused for anything else.
 pub fn read_config(alloc: Global, text: &str) -> Result<(Config, Memories, Turns), ToolFault>
     // The text is a TOML document, and the settings are what its table means.
     ensures ok { IfOk result (λ s.
