@@ -26,16 +26,16 @@ _lpt() {
     split:*) options+=' --parts --count --each --whole --pcap --layout' ;;
     join:*) options+=' --id --first --any --each --from --to --layout --quiet' ;;
     extract:*) options+=' --at --from --fill --whole --join --layout --quiet' ;;
-    link:*) options='--lose --repeat --damage --delay --seed --layout --quiet --help --version' ;;
+    link:*) options='--lose --repeat --damage --damage-headers --delay --seed --layout --quiet --help --version' ;;
     verify:*) options='--json --open --layout --quiet --help --version' ;;
-    spacecraft:*) options+=' --mode --memory --save --tick-every --tick --reuse --resync --log --state' ;;
+    spacecraft:*) options+=' --mode --memory --save --tick-every --tick --reuse --resync --longest --log --state' ;;
     compare:*) options+=' --layout --quiet' ;;
     checksum:*) options='--from --length --help --version' ;;
     ground:load | ground:dump | ground:check | ground:patch)
-        options+=' --passes --count --wait --tries --up --job --chart --resync --json --quiet'
+        options+=' --passes --count --wait --tries --up --job --chart --resync --longest --json --quiet'
         ;;
     pass:load | pass:dump | pass:check | pass:patch)
-        options+=' --passes --count --wait --tries --job --chart --json --quiet'
+        options+=' --passes --count --wait --tries --job --chart --longest --json --quiet'
         options+=' --memory --save --state --lose --repeat --damage --delay --seed'
         ;;
     request:load) options+=' --area --each --ack --count --layout' ;;
@@ -59,7 +59,7 @@ _lpt() {
         return
         ;;
     *:*:--from:* | *:*:--to:* | *:*:--at:* | *:*:--fill:* | *:*:--length:* | *:*:--parts:* | *:*:--id:* | *:*:--ack:* | *:*:--count:* | *:*:--area:* | *:*:--each:* | \
-        *:*:--wait:* | *:*:--tries:* | *:*:--name:* | *:*:--names:* | *:*:--lose:* | *:*:--repeat:* | *:*:--damage:* | *:*:--delay:* | *:*:--seed:* | *:*:--memory:* | *:*:--tick-every:* | *:*:--reuse:* | \
+        *:*:--wait:* | *:*:--tries:* | *:*:--name:* | *:*:--names:* | *:*:--lose:* | *:*:--repeat:* | *:*:--damage:* | *:*:--damage-headers:* | *:*:--delay:* | *:*:--seed:* | *:*:--memory:* | *:*:--tick-every:* | *:*:--reuse:* | \
         *:*:--apid:* | *:*:--source:* | *:*:--part-size:*)
         return
         ;;

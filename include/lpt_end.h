@@ -27,8 +27,9 @@
  *   - each part that is handed to lpt_end_packet was made after this end last freed its name;
  *   - the rules at lpt_end_new, lpt_end_packet and lpt_end_retire, for the two ends of a link;
  *   - a program that has the memories itself reads them as lpt_end_access says, before
- *     lpt_end_execute_given. It writes them before that call, or after it and before it executes
- *     another request;
+ *     lpt_end_execute_given. It makes each write that it is told, whole, before that call, or after
+ *     it and before it executes another request. It restarts its end only if it has written nothing
+ *     ahead of that call, or has put it back;
  *   - the program has the three memory functions, LptTried rattle_alloc(..) and so on, and they do
  *     what their comments say.
  */
@@ -593,7 +594,8 @@ uint32_t lpt_end_sender(LptEnd *end, size_t number, LptSender *sender);
  * Restarts the end. It closes its open messages, whose names stay in use. It drops its open
  * receptions, whose names are free again, and the requests that weren't executed. It counts its
  * packets from 0. Other names, the clock and the memories stay as they are, and so do the message
- * that was released last and the packets that wait to be sent.
+ * that was released last and the packets that wait to be sent. If the caller has the memories, and
+ * wrote something ahead of lpt_end_execute_given, it first puts that back.
  * LPT_DONE; LPT_E_NO_NUMBER.
  */
 LPT_MUST_USE

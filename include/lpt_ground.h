@@ -204,7 +204,8 @@ uint32_t lpt_ground_fate(LptGround *pass, size_t number, LptFate *fate);
  * leaves the rest of the buffer as it was. A program may keep these packets. After a restart it
  * makes a new pass of the same job, with the same source and count, and hands them to it by
  * lpt_ground_packet: so the job continues where it was. It may also keep and hand over all packets
- * that came. A request that failed has no packet here. If the report of its failure isn't handed
+ * that came. A job of dumps or checks that continues may take late answers to what was asked before
+ * the restart: a new job, with another source, doesn't. A request that failed has no packet here. If the report of its failure isn't handed
  * over, the new pass sends the request again.
  * LPT_DONE; LPT_E_NOTHING if there is no such request, or it is open or failed; LPT_E_ROOM. At
  * LPT_DONE and LPT_E_ROOM *needed is the packet's length.

@@ -1,9 +1,13 @@
 #!/usr/bin/env python3
 """What the theorems assume that README's promise cites, as one list, and what some other laws assume
-besides: `tools/assumptions.py` prints each assumption with the definition where it stands.
+besides: `tools/assumptions.py` prints each assumption with the definition where it stands, and behind
+them what the premises themselves say.
 
 An assumption stands in the comment above the definition that states it, behind `Assumed:`, as one
-sentence. Those of a theorem are the ones above the definitions that its premises reach."""
+sentence. Those of a theorem are the ones above the definitions that its premises reach. A comment may
+leave something out, so each conjunct of the premises is printed too, of these laws and of those on
+resets, on what a program is handed, and on executions: the fields of a record and the factors of a
+definition, as they stand, of each definition in a crate of laws."""
 
 import pathlib
 import re
@@ -24,6 +28,17 @@ THEOREMS = [
 OTHERS = [
     ("lpt_ground_moves", "Chains", "DoneLeavesTheImage"),
     ("lpt_spacecraft_moves", "Lives", "GroundAndSpacecraftKeepThePromise"),
+]
+
+# Those on resets, on what is handed out and on executions.
+MORE = [
+    ("lpt_c_pair", "Histories", "ResetEndsOfCKeepThePromise"),
+    ("lpt_c_pair", "Histories", "CarefulProgramsMayBeReset"),
+    ("lpt_c_pair", "Resets", "ResetProgramsKeepTheirMemories"),
+    ("lpt_c_pair", "Handed", "MessagesAreHanded"),
+    ("lpt_c_pair", "Handed", "MessagesStay"),
+    ("lpt_c_pair", "Handed", "ExecutionsAreTold"),
+    ("lpt_c_pair", "Handed", "GivenExecutionsAreTold"),
 ]
 
 HEAD = re.compile(r"^(?:abbrev |unfoldable )?pub (?:record |data )?([\w◌-]+)")
@@ -93,26 +108,69 @@ def assumed(comment):
     return re.findall(rf"{ASSUMED}([^.]*\.)", comment)
 
 
+def reached_by(theorem):
+    """The definitions that a theorem's premises reach, each with its comment and its text."""
+    crate, path, name = theorem
+    file = file_of(crate, path)
+    waiting, seen = list(file.reached((crate, path), premises(file.definitions[name][1]))), set()
+    while waiting:
+        place = waiting.pop(0)
+        file = file_of(*place[:2])
+        if place not in seen and file is not None and place[2] in file.definitions:
+            seen.add(place)
+            yield (place, *file.definitions[place[2]])
+            waiting.extend(file.reached(place[:2], file.definitions[place[2]][1]))
+
+
 def assumptions(theorems=THEOREMS):
     """Each assumption, with the definitions where it stands and the theorems whose it is."""
     found = {}
     for theorem in theorems:
-        crate, path, name = theorem
-        file = file_of(crate, path)
-        waiting = list(file.reached((crate, path), premises(file.definitions[name][1])))
-        seen = set()
-        while waiting:
-            place = waiting.pop(0)
-            file = file_of(*place[:2])
-            if place in seen or file is None or place[2] not in file.definitions:
-                continue
-            seen.add(place)
-            comment, text = file.definitions[place[2]]
+        for place, comment, _ in reached_by(theorem):
             for sentence in assumed(comment):
                 places, whose = found.setdefault(sentence, ([], []))
                 places.extend([place] if place not in places else [])
-                whose.extend([name] if name not in whose else [])
-            waiting.extend(file.reached(place[:2], text))
+                whose.extend([theorem[2]] if theorem[2] not in whose else [])
+    return found
+
+
+def split_at(text, word):
+    """The pieces of a text between these words that stand in no bracket."""
+    depth, pieces, start = 0, [], 0
+    for at, letter in enumerate(text):
+        depth += (letter in "([{") - (letter in ")]}")
+        if depth == 0 and text.startswith(word, at):
+            pieces.append(text[start:at])
+            start = at + len(word)
+    return [it.strip() for it in [*pieces, text[start:]]]
+
+
+def conjuncts(name, text):
+    """What a definition says, piece by piece: nothing, unless it is a statement."""
+    head, _, body = text.partition("\n")
+    if "record " in head:
+        head, _, body = text.partition(" where\n")
+        fields = re.split(r"^  (?:pub )?(?=\w+ :)", body, flags=re.MULTILINE)[1:]
+        return [" ".join(it.split()) for it in fields] if "(" in head else []
+    arms = re.split(rf"^(?={re.escape(name)}\b)", text, flags=re.MULTILINE)[1:]
+    if not re.search(r"→ Type 0\s*\Z", re.split(rf"^{re.escape(name)}\b", text, flags=re.MULTILINE)[0]):
+        return []
+    found = []
+    for arm in arms:
+        front, _, said = " ".join(arm.split()).partition(" = ")
+        pieces = split_at(said, " × ")
+        found += [f"{front}: {it}" for it in pieces if it != "⊤"]
+    return found
+
+
+def said_by_premises():
+    """Each conjunct of the premises of all these laws, with the place of its definition and the laws whose it is."""
+    laws, found = [*THEOREMS, *OTHERS, *MORE], {}
+    crates = {crate for crate, _, _ in laws}
+    for theorem in laws:
+        for place, _, text in reached_by(theorem):
+            for it in conjuncts(place[2], text) if place[0] in crates else []:
+                found.setdefault((place, it), []).append(theorem[2])
     return found
 
 
@@ -133,3 +191,9 @@ if __name__ == "__main__":
         for crate, path, name in places:
             print(f"    {crate}/specs/{path}: {name}")
         print(f"    of {', '.join(whose)}")
+    last = None
+    for (place, conjunct), _ in said_by_premises().items():
+        if place != last:
+            print(f"\n{place[0]}/specs/{place[1]}: {place[2]}")
+        print(f"  {conjunct}")
+        last = place

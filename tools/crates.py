@@ -3,7 +3,9 @@
 from __future__ import annotations
 
 import pathlib
+import re
 import shutil
+from typing import Iterable
 
 KIT = pathlib.Path(shutil.which("rt") or "rt").resolve().parent.parent
 
@@ -44,3 +46,19 @@ def prover(verb: str, name: str, root: str, listed: list[str], room: pathlib.Pat
         words += ["-L", f"dependency={folder}"]
     words += ["--antt-project", f"{KIT}/rattle/logic/antt-project.json"]
     return [*words, "--logic-built", f"{KIT}/logic_built", "--links", f"{name}=", "--jobs", "1"]
+
+
+def sources(room: pathlib.Path, crates: list[str], listed: Iterable[str] = ()) -> list[str]:
+    """The words that hand these crates, and the kit's libraries that they or what is compiled list, to the kit as
+    sources."""
+    known, of_kit, words = libraries(room), ["core", "std", *listed], []
+    for crate in crates:
+        uses = dict.fromkeys(["core", "std", *known[crate]])
+        of_kit += [it for it in known[crate] if it not in known]
+        words += ["--lib", f"{crate}:{','.join(uses)}={room}/crates/{crate}/src/lib.rt"]
+    of_kit = list(dict.fromkeys(of_kit))
+    for name in of_kit:
+        uses = re.findall(r"^dep (\w+)$", (KIT / f"rlibs/{name}.rlib/format").read_text("utf-8"), re.M)
+        of_kit += [it for it in uses if it not in of_kit]
+        words += ["--lib", f"{name}:{','.join(uses)}={KIT}/rattle/{name}/src/lib.rt"]
+    return words

@@ -20,6 +20,23 @@ def beside_misfits(ran):
     return status, printed, [line for line in said if not line.startswith("lpt: the message is no packet")]
 
 
+def clashes(areas, start=0):
+    """The runs of addresses from a start on for which areas contradict one another: of each area that differs from
+    those before it from the first such address to the last."""
+    held, found = {}, []
+    for address, octets in areas:
+        unlike = [at for at, octet in enumerate(octets, address) if at >= start and held.get(at, octet) != octet]
+        found += [(unlike[0], unlike[-1])] if unlike else []
+        held |= dict(enumerate(octets, address))
+    runs = []
+    for first, last in sorted(found):
+        if runs and first <= runs[-1][1] + 1:
+            runs[-1][1] = max(last, runs[-1][1])
+        else:
+            runs.append([first, last])
+    return [f"{first}-{last}" if first < last else first for first, last in runs]
+
+
 class Driver:
     """A script of tests/ by this name: it runs the program that was built, and counts its cases."""
 

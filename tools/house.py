@@ -2,10 +2,13 @@
 
 house.py            looks
 house.py --lower    also writes into tools/counts.txt the numbers that fell
-house.py --edits    prints which crates have more must-fail edits than public functions, and how many of each
+house.py --edits    prints how many must-fail edits each crate has
+house.py --sizes    prints how large the house is, to the last line and word
 
 Some rules are written down and broken here and there. How often each is broken stands in tools/counts.txt, and
 may only fall: a count above its number is wrong, and of one below it standard error tells the number to write.
+So it is with how large the house is, lines and words in thousands. Such a number may rise in a commit that says
+why, in a line `Grows: ..` of its message.
 """
 
 from __future__ import annotations
@@ -13,18 +16,22 @@ from __future__ import annotations
 import os
 import pathlib
 import re
+import shutil
+import subprocess
 import sys
 from dataclasses import dataclass
-from typing import Iterator
+from typing import Callable, Iterator
 
 sys.dont_write_bytecode = True
 from crates import libraries  # noqa: E402: it stands beside this file
 from edits.sources import functions_of  # noqa: E402
+from synopsis import ROW  # noqa: E402
 
 TOP = pathlib.Path(__file__).resolve().parent.parent
 COUNTS = TOP / "tools/counts.txt"
 WORST = 3
 
+HOW_TO_GROW = "make one go, or write the number there and the reason into a line Grows: of the commit"
 HANDLES = "Handles allowed: Threads, Wait.\n"
 # A file of a crate, or a folder, as the documents name it.
 NAMED = re.compile(r"\blpt_\w+/(?:src|specs|proofs)/\w+(?:/\w+)*")
@@ -32,11 +39,17 @@ NAMED = re.compile(r"\blpt_\w+/(?:src|specs|proofs)/\w+(?:/\w+)*")
 LONGEST_LINE, LONGEST_FUNCTION, LONGEST_FILE, MOST_PARAMETERS = 100, 40, 400, 7
 # So many crates may have a type of one name.
 MOST_NAMESAKES = 3
+# So many must-fail edits may there be in all, in a crate, and in one of those on whose code the promise rests.
+MOST_EDITS, EDITS_OF_A_CRATE, EDITS_OF_THE_CORE = 700, 12, 20
+CORE = set(
+    """lpt_packet lpt_part lpt_memory lpt_reception lpt_table lpt_ledger lpt_node lpt_state lpt_execution lpt_share
+    lpt_c_end lpt_spacecraft lpt_stream""".split()
+)
 IMPORT = re.compile(r" *(?:ghost |pub(?:\(crate\))? )?use ")
 PASSED_ON = re.compile(r"\bErr\((\w+)\) => (?:return )?Err\(\1\)")
 # What a function, and a definition, is named; and the participles that don't end in -ed.
 FUNCTION = re.compile(r" *(?:pub(?:\([a-z]+\))? )?(?:const |unsafe |extern \"C\" )*fn ([a-z0-9]+)(?=[(<])")
-PUBLIC = re.compile(r"^ *pub (?:const |unsafe |extern \"C\" )*fn ", re.MULTILINE)
+LAW = re.compile(r"^pub fn ", re.MULTILINE)
 TYPE = re.compile(r"^ *(?:pub(?:\([a-z]+\))? )?(?:struct|enum|union) (\w+)", re.MULTILINE)
 DEFINITION = re.compile(r"(?:pub |abbrev )*([a-z0-9]+)(?= .*:| :|$)")
 PARTICIPLES = set(
@@ -184,13 +197,81 @@ def wrong_counts(found: dict[str, list[Breach]], known: dict[str, int]) -> Itera
             yield f"{rule}: {len(breaches)}, {more} more than may be (tools/counts.txt); the worst: {worst}"
 
 
-def lower(file: pathlib.Path, found: dict[str, list[Breach]]) -> None:
+def lower(file: pathlib.Path, counts: dict[str, int]) -> None:
     """Writes down the numbers that fell."""
     text = file.read_text(encoding="utf-8")
     for rule, number in numbers(file).items():
-        if rule in found and len(found[rule]) < number:
-            text = text.replace(f"{rule}: {number}\n", f"{rule}: {len(found[rule])}\n")
+        if rule in counts and counts[rule] < number:
+            text = text.replace(f"\n{rule}: {number}\n", f"\n{rule}: {counts[rule]}\n")
     file.write_text(text, encoding="utf-8")
+
+
+def lines_in(part: str) -> Callable[[pathlib.Path], int]:
+    """What counts the lines of all crates' sources, definitions or proofs."""
+    return lambda top: sum(len(it.lines) for it in sources(top) if f"/{part}/" in it.path)
+
+
+def helps(top: pathlib.Path) -> list[str]:
+    """The help of each command."""
+    return [it.read_text(encoding="utf-8") for it in sorted(top.glob("docs/help/*")) if it.name != "lpt"]
+
+
+def options(top: pathlib.Path) -> int:
+    """How many options the commands have, `--help` aside."""
+    return sum(name != "help" for it in helps(top) for name, _, _ in ROW.findall(it))
+
+
+def laws(top: pathlib.Path) -> int:
+    """How many laws are stated of all crates."""
+    return sum(len(LAW.findall(it.read_text(encoding="utf-8"))) for it in top.glob("crates/*/src/laws*.rt"))
+
+
+def words(top: pathlib.Path) -> int:
+    """How many words the documents have, their tables and blocks of code among them."""
+    texts = (it.read_text(encoding="utf-8") for it in (*top.glob("*.md"), *top.glob("docs/*.md")))
+    return sum(any(map(str.isalnum, it)) for text in texts for it in text.split())
+
+
+# How large the house is, and in what each is counted.
+SIZES: dict[str, tuple[Callable[[pathlib.Path], int], int]] = {
+    "crates": (lambda top: len(libraries(top)), 1),
+    "commands": (lambda top: len(helps(top)), 1),
+    "options of commands": (options, 1),
+    "laws": (laws, 1),
+    "lines of sources, in thousands": (lines_in("src"), 1000),
+    "lines of definitions, in thousands": (lines_in("specs"), 1000),
+    "lines of proofs, in thousands": (lines_in("proofs"), 1000),
+    "words of documents, in thousands": (words, 1000),
+}
+
+
+def sizes(top: pathlib.Path) -> dict[str, int]:
+    """How large the house is, rounded up."""
+    return {name: -(-count(top) // unit) for name, (count, unit) in SIZES.items()}
+
+
+def wrong_sizes(found: dict[str, int], known: dict[str, int]) -> Iterator[str]:
+    """What became larger than is written down."""
+    for name, size in found.items():
+        if name not in known:
+            yield f"tools/counts.txt has no number of {name}: there are {size}"
+        elif size > known[name]:
+            yield f"{name}: {size}, {size - known[name]} more than may be (tools/counts.txt): {HOW_TO_GROW}"
+
+
+def wrong_rises(top: pathlib.Path) -> Iterator[str]:
+    """Sizes that the last commit of tools/counts.txt made larger, where its message doesn't say why. Where git knows
+    of no commits, there are none."""
+    if not (top / ".git").exists() or shutil.which("git") is None:
+        return
+    log = ["git", "-C", str(top), "log", "-1", "-p", "--format=%B", "--", "tools/counts.txt"]
+    said = subprocess.run(log, stdout=subprocess.PIPE, text=True, encoding="utf-8", check=False).stdout
+    if re.search(r"^Grows: \S", said, re.MULTILINE):
+        return
+    before = dict(re.findall(r"^-(.+): (\d+)$", said, re.MULTILINE))
+    for name, number in re.findall(r"^\+(.+): (\d+)$", said, re.MULTILINE):
+        if name in SIZES and name in before and int(number) > int(before[name]):
+            yield f"{name}: {number} in place of {before[name]}, and the commit says no reason in a line Grows:"
 
 
 def is_there(place: pathlib.Path) -> bool:
@@ -226,13 +307,21 @@ def wrong_types(top: pathlib.Path) -> Iterator[str]:
             yield f"{len(files)} types are called {name}: {', '.join(files)}"
 
 
-def many_edits(top: pathlib.Path) -> Iterator[str]:
-    """The crates with more must-fail edits than public functions."""
-    for crate in sorted((top / "crates").iterdir()):
-        edits = len(list(crate.glob("must-fail/*.edit")))
-        public = sum(len(PUBLIC.findall(it.read_text(encoding="utf-8"))) for it in crate.glob("src/**/*.rt"))
-        if edits > public:
-            yield f"{crate.name}: {edits} edits, {public} public functions"
+def edits_of(top: pathlib.Path) -> dict[str, int]:
+    """How many must-fail edits each crate has that has some."""
+    found = {it.name: len(list(it.glob("must-fail/*.edit"))) for it in sorted((top / "crates").iterdir())}
+    return {crate: edits for crate, edits in found.items() if edits}
+
+
+def wrong_edits(top: pathlib.Path) -> Iterator[str]:
+    """More edits than may be, in all and of a crate: one is kept if it turns a meaning that no other turns."""
+    found = edits_of(top)
+    if sum(found.values()) > MOST_EDITS:
+        yield f"there are {sum(found.values())} must-fail edits, and at most {MOST_EDITS} may be"
+    for crate, edits in found.items():
+        most = EDITS_OF_THE_CORE if crate in CORE else EDITS_OF_A_CRATE
+        if edits > most:
+            yield f"{crate} has {edits} must-fail edits, and at most {most} may be"
 
 
 def wrong_scripts(top: pathlib.Path) -> Iterator[str]:
@@ -244,19 +333,24 @@ def wrong_scripts(top: pathlib.Path) -> Iterator[str]:
 
 def main(words: list[str]) -> int:
     """Looks at the repository, and prints what is wrong."""
-    if words not in ([], ["--lower"], ["--edits"]):
+    if words not in ([], ["--lower"], ["--edits"], ["--sizes"]):
         sys.exit(__doc__)
     if words == ["--edits"]:
-        print("\n".join(many_edits(TOP)))
+        print("\n".join(f"{edits} {crate}" for crate, edits in edits_of(TOP).items()))
         return 0
-    found = counted(TOP)
+    if words == ["--sizes"]:
+        print("\n".join(f"{name.partition(',')[0]}: {count(TOP)}" for name, (count, _) in SIZES.items()))
+        return 0
+    found, large = counted(TOP), sizes(TOP)
+    counts = {**{rule: len(breaches) for rule, breaches in found.items()}, **large}
     if words:
-        lower(COUNTS, found)
+        lower(COUNTS, counts)
     known = numbers(COUNTS)
     for rule, number in known.items():
-        if len(found.get(rule, [])) < number:
-            print(f"house: write '{rule}: {len(found.get(rule, []))}' into tools/counts.txt", file=sys.stderr)
-    wrong = [*wrong_crates(TOP), *wrong_types(TOP), *wrong_scripts(TOP), *wrong_counts(found, known)]
+        if counts.get(rule, 0) < number:
+            print(f"house: write '{rule}: {counts.get(rule, 0)}' into tools/counts.txt", file=sys.stderr)
+    wrong = [*wrong_crates(TOP), *wrong_types(TOP), *wrong_edits(TOP), *wrong_scripts(TOP)]
+    wrong += [*wrong_counts(found, known), *wrong_sizes(large, known), *wrong_rises(TOP)]
     for it in wrong:
         print(it)
     return 1 if wrong else 0

@@ -1,53 +1,33 @@
 """The spacecraft's end over a stream of packets."""
 
-from .packets import Fault, number_of, read_packet
+from .cutting import pieces
+from .packets import Fault, number_of
 from .parts import part_count
 from .world import World, parsed
 
-
-def framed(stream, at):
-    """Where the packet that begins at a place ends, as its header says, or `None` where that is further on."""
-    end = at + 7 + number_of(stream[at + 4 : at + 6])
-    return None if len(stream) < at + 6 or len(stream) < end else end
+# A packet that carries a part of so many octets has so many more at most.
+AROUND_A_PART = 23
 
 
-def is_sound(stream, at):
-    """Whether a packet that is no idle one, with a right checksum, begins at a place."""
-    end = framed(stream, at)
-    try:
-        return end is not None and read_packet(stream[at:end]) is not None
-    except Fault:
-        return False
-
-
-def may_come(stream, at):
-    """Whether one may begin there of which more is to come: nothing of its header is wrong."""
-    first, second, third = (stream[at + place : at + place + 2] for place in (0, 2, 4))
-    if framed(stream, at) is not None or first[:1] and first[0] >> 5:
-        return False
-    if len(first) == 2 and (number_of(first) >> 11 & 1 == 0 or number_of(first) & 0x7FF == 0x7FF):
-        return False
-    return not (len(second) == 2 and number_of(second) >> 14 != 3 or len(third) == 2 and number_of(third) == 0)
-
-
-def cut(stream, again=False):
-    """The packets of a stream, by the lengths that their headers say, in their order with the places and
-    the numbers of octets that are passed over, and where the rest begins."""
-    events, at = [], 0
-    while at < len(stream):
-        if stream[at] >> 5:
-            if not again:
-                break
-            end = at + 1
-            while end < len(stream) and not is_sound(stream, end) and not may_come(stream, end):
-                end += 1
-            events.append((at, end - at))
+def cut(stream, longest, again=False):
+    """The packets of a stream in their order, and where the rest begins: what the stream's end cuts off, or the first
+    octets that are none. A damaged packet of version 0 is one. An end that goes on passes over it and all that is none:
+    then the places and numbers of octets of each damaged packet, and of all octets astray in a row, stand among the
+    packets."""
+    events, at, is_astray = [], 0, False
+    for piece in pieces(stream, longest):
+        size, was_astray, is_astray = len(piece.octets), is_astray, piece.kind == "astray"
+        is_cut = piece.kind == "damaged" and (size < 6 or size < 7 + number_of(piece.octets[4:6]))
+        is_packet = piece.kind == "whole" or piece.kind == "damaged" and not again and piece.octets[0] >> 5 == 0
+        if is_cut or not is_packet and not again:
+            break
+        if is_packet:
+            events.append(piece.octets)
+        elif is_astray and was_astray:
+            events[-1] = (events[-1][0], events[-1][1] + 1)
         else:
-            end = framed(stream, at)
-            if end is None:
-                break
-            events.append(stream[at:end])
-        at = end
+            events.append((piece.place, size))
+        at += size
     return events, at
 
 
@@ -118,12 +98,12 @@ class Spacecraft(World):
         return [octets for direction, octets in self.link.packets if direction == "down"]
 
 
-def serve(settings, contents, stream, every=0, reuse=0, again=False):
+def serve(settings, contents, stream, every=0, reuse=0, again=False, longest=None):
     """What is written, what the memories hold then, where octets are behind the packets, or `None`, and
     the lines of the log, sorted: a set has no order in which names are freed. Octets that are no packet
-    end it, or are passed over."""
+    end it, or are passed over. No packet is longer than the longest, by default one with a whole part."""
     craft = Spacecraft(settings, contents, reuse)
-    events, at = cut(stream, again)
+    events, at = cut(stream, longest or settings.part_size + AROUND_A_PART, again)
     number = 0
     for event in events:
         if isinstance(event, tuple):

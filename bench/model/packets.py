@@ -22,6 +22,7 @@ class Fault(Exception):
 
     def __init__(self, number, name):
         super().__init__(f"{number} {name}")
+        self.number = number
 
 
 def hexadecimal(octets):

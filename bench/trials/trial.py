@@ -110,7 +110,7 @@ class Trial:
             octets = changed(chance, octets, CHANGES)
         if chance.random() < 0.5:
             octets = mended(octets)
-        words = ["decode", octets.hex(), "--config", "settings.toml"]
+        words = ["decode", octets.hex() or "-", "--config", "settings.toml"]
         files = {"settings.toml": written(settings)}
         outcome = self.run("packets", words, files, len(octets))
         printed, status = model.decode(octets, settings.part_size)

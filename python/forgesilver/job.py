@@ -176,6 +176,8 @@ class Job(Handle):
     def reports(self) -> Iterator[bytes]:
         """The packets that settled requests as completed. Keep them: after a restart make the job
         again, with the same source and count, and feed them to it; it then continues where it was.
+        A late answer to what was asked before the restart then counts; for a new dump or check
+        make a job with another source.
         Requests that failed are sent again, unless you feed it the reports of their failures too."""
         room = Room(self._most)
         for at in range(self.progress.requests):

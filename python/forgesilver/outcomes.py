@@ -19,10 +19,11 @@ _FAILURES = dict(enumerate((
     "unknown service or subtype", "malformed body", "unknown memory", "out of range", "wrong checksum",
     "reply too long", "no free identifier", "too many open",
 ), 1))
-# The last success that a request asks for, by its flags.
+# The success by which a request is done, by its flags. That it was accepted says nothing of its end: if it
+# asks for that alone, only a report of completion that came all the same does.
 _LASTS = (
     (Acknowledge.COMPLETION, "completed"), (Acknowledge.START, "started"),
-    (Acknowledge.ACCEPTANCE, "accepted"),
+    (Acknowledge.ACCEPTANCE, "completed"),
 )
 _TOLD = {ReportKind.ACCEPTED: "accepted", ReportKind.STARTED: "started"}
 
@@ -66,18 +67,19 @@ class RequestOutcome:
 
     @property
     def is_done(self) -> bool:
-        """Whether it didn't fail, and the last success that it asks for was reported. If it asks for no
-        report of success, it is never done."""
+        """Whether it didn't fail, and the last success of its execution that it asks for was reported:
+        completion, or start. If it asks for acceptance alone, it is done if it was reported as completed
+        all the same; if it asks for no report of success, never."""
         return self.failure is None and self._has_last
 
     @property
     def is_open(self) -> bool:
-        """Whether neither a failure nor the last success that it asks for was reported."""
+        """Whether it didn't fail, and isn't done."""
         return self.failure is None and not self._has_last
 
     @property
     def _has_last(self) -> bool:
-        """Whether the last success that it asks for was reported."""
+        """Whether the success by which it is done was reported."""
         flags = self.acknowledgement_flags
         return next((bool(getattr(self, name)) for flag, name in _LASTS if flags & flag), False)
 
@@ -196,6 +198,8 @@ class Requests:
 def _failure_in(subtype: int, body: bytes) -> dict[str, Any]:
     """What the body of a report of failure says: its code, if that has 16 bits, and its words."""
     if subtype == _FAILED_PROGRESS or len(body) != 6:
-        return {"failure": "failed, code not read"}
+        return {"failure": "code not read"}
     code = int.from_bytes(body[4:], "big")
-    return {"failure_code": code, "failure": _FAILURES.get(code, "unknown code")}
+    # In another report a code isn't this service's own: it has the sender's meaning.
+    is_own = subtype == (2 if code <= 2 else 4)
+    return {"failure_code": code, "failure": _FAILURES.get(code if is_own else 0, "unknown code")}

@@ -202,7 +202,7 @@ def reader_of(file: BinaryIO) -> Callable[[int], bytes]:
     # A class with a read of its own is read by that: its read1 may be one that it inherits.
     of = next((vars(it) for it in type(file).__mro__ if "read" in vars(it)), None)
     read1 = getattr(file, "read1", None) if of is None or "read1" in of else None
-    read = read1 or getattr(file, "read", None)
+    read: Any = read1 or getattr(file, "read", None)
     if read is None:
         raise TypeError(f"{file!r:.80} has neither octets nor a file's read")
     return lambda size: _returned(read(size))

@@ -1046,7 +1046,10 @@ local function abort_body(body, head, node, at)
     return said
 end
 
-local function report_body(what, is_failure)
+-- A report of success, or one of failure with the codes from one to another that this service sends in it: another
+-- code has the sender's meaning.
+local function report_body(what, from, to)
+    local is_failure = from ~= nil
     return function(body, head, tree)
         if body:len() ~= (is_failure and 6 or 4) then
             tell(head, tree, e.unread, "The report isn't read")
@@ -1057,8 +1060,10 @@ local function report_body(what, is_failure)
         tree:add(p.request, body(0, 4)):append_text(" (" .. of .. ")")
         if not is_failure then return what .. " succeeded, " .. of end
         local code = body(4, 2):uint()
-        tree:add(p.failure, body(4, 2))
-        local why = string.format("code %d, %s", code, FAILURES[code] or "unknown")
+        local is_own = code >= from and code <= to
+        local node = tree:add(p.failure, body(4, 2))
+        if not is_own then node:set_text("Failure code: " .. code) end
+        local why = string.format("code %d, %s", code, is_own and FAILURES[code] or "unknown")
         tell(head, tree, e.failed, what .. " failed: " .. why)
         return what .. " failed, " .. of .. ": " .. why
     end
@@ -1107,8 +1112,8 @@ local function areas_body(what, has_data, has_checksum)
 end
 
 local BODIES = {
-    ["TM[1,1]"] = report_body("acceptance"), ["TM[1,2]"] = report_body("acceptance", true),
-    ["TM[1,3]"] = report_body("start"), ["TM[1,4]"] = report_body("start", true),
+    ["TM[1,1]"] = report_body("acceptance"), ["TM[1,2]"] = report_body("acceptance", 1, 2),
+    ["TM[1,3]"] = report_body("start"), ["TM[1,4]"] = report_body("start", 3, 8),
     ["TM[1,7]"] = report_body("completion"),
     ["TC[6,2]"] = areas_body("load", true, true), ["TC[6,5]"] = areas_body("dump"),
     ["TC[6,9]"] = areas_body("check"), ["TM[6,6]"] = areas_body("dump report", true, true),

@@ -48,52 +48,57 @@ open_named c first es d name m good legal shown opened = go (current h d name) r
       absurd (let both : known.Free ≡ known.Open = sym free ∙ opened in cc)
   go (Some o) e = ((every c first es good legal).0.openings d name o e).is_name
 
-module _ (c : Config) (first : Contents) (s : State) (ways : List PutOut) (log : Log)
+module _ (c : Config) (first : Contents) (usual : Type 0) (s : State) (ways : List PutOut)
+    (log : Log)
     (es : List Act)
-    (good : IsConfig c) (t : IsTied c first s ways log es) where
+    (good : IsConfig c) (t : IsTied c first usual s ways log es) where
   abbrev had : Came
   had = came c (history_after c first es)
 
-  same : Leads c first (ends_of s ways log) had
+  same : Leads c first usual (ends_of s ways log) had
   same = record {
     follows = record { state = s; events = es; tied = t; is = refl };
     comes = λ d name k. refl;
   }
 
   pub closed_up : (name : Name)
-      → Leads c first (with_node (ends_of s ways log) Ground (sender_closed s.on_ground name)) had
+      → Leads c first usual
+      (with_node (ends_of s ways log) Ground (sender_closed s.on_ground name)) had
   closed_up name = go (state_at s.on_ground.sending.ledger name) refl where
     go : (k : Known)
         → state_at s.on_ground.sending.ledger name ≡ k
-        → Leads c first (with_node (ends_of s ways log) Ground (sender_closed s.on_ground name)) had
+        → Leads c first usual
+        (with_node (ends_of s ways log) Ground (sender_closed s.on_ground name)) had
     go known.Open e =
-        finish c first s ways log es good t Up name (
+        finish c first usual s ways log es good t Up name (
           open_named c first es Up name s.on_ground.sending.ledger good t.legal
               (t.shown.ground.sending.ledger name) e,
           ap refusal_finish_in e,
         )
     go known.Free e =
-        subst (λ (k : Known). Leads c first (with_node (ends_of s ways log) Ground
+        subst (λ (k : Known). Leads c first usual (with_node (ends_of s ways log) Ground
         (record s.on_ground { sending = closed_by k s.on_ground.sending name })) had) (sym e) same
     go known.Closed e =
-        subst (λ (k : Known). Leads c first (with_node (ends_of s ways log) Ground
+        subst (λ (k : Known). Leads c first usual (with_node (ends_of s ways log) Ground
         (record s.on_ground { sending = closed_by k s.on_ground.sending name })) had) (sym e) same
 
   pub closed_down : (name : Name)
-      → Leads c first (with_node (ends_of s ways log) Craft (sender_closed s.on_craft name)) had
+      → Leads c first usual (with_node (ends_of s ways log) Craft (sender_closed s.on_craft name))
+      had
   closed_down name = go (state_at s.on_craft.sending.ledger name) refl where
     go : (k : Known)
         → state_at s.on_craft.sending.ledger name ≡ k
-        → Leads c first (with_node (ends_of s ways log) Craft (sender_closed s.on_craft name)) had
+        → Leads c first usual
+        (with_node (ends_of s ways log) Craft (sender_closed s.on_craft name)) had
     go known.Open e =
-        finish c first s ways log es good t Down name (
+        finish c first usual s ways log es good t Down name (
           open_named c first es Down name s.on_craft.sending.ledger good t.legal
               (t.shown.craft.sending.ledger name) e,
           ap refusal_finish_in e,
         )
     go known.Free e =
-        subst (λ (k : Known). Leads c first (with_node (ends_of s ways log) Craft
+        subst (λ (k : Known). Leads c first usual (with_node (ends_of s ways log) Craft
         (record s.on_craft { sending = closed_by k s.on_craft.sending name })) had) (sym e) same
     go known.Closed e =
-        subst (λ (k : Known). Leads c first (with_node (ends_of s ways log) Craft
+        subst (λ (k : Known). Leads c first usual (with_node (ends_of s ways log) Craft
         (record s.on_craft { sending = closed_by k s.on_craft.sending name })) had) (sym e) same

@@ -11,6 +11,7 @@ use Rattle.lpt_events.specs.Lanes.{lane_direction, same_direction}
 use Rattle.lpt_events.specs.Sides.{receiver_side}
 use Rattle.lpt_events.specs.declared.config.Config.{Config}
 use Rattle.lpt_acts.specs.Acts.{Act, Take, Deliver}
+use Rattle.lpt_events.specs.declared.event.Event.TheVariants as event
 use Rattle.lpt_events.specs.declared.lane.Lane.{Lane}
 use Rattle.lpt_events.specs.declared.lane.Lane.TheVariants.{S1, S2, G1, G2}
 use Rattle.lpt_events.specs.declared.side.Side.TheVariants.{Ground, Craft}
@@ -74,9 +75,10 @@ deliver c first s es l n good took =
 
 -- ---- what is on the way
 
-module _ (c : Config) (first : Contents) (s : State) (ways : List PutOut) (log : Log)
+module _ (c : Config) (first : Contents) (usual : Type 0) (s : State) (ways : List PutOut)
+    (log : Log)
     (es : List Act)
-    (good : IsConfig c) (t : IsTied c first s ways log es) where
+    (good : IsConfig c) (t : IsTied c first usual s ways log es) where
   -- the parts that came before
   abbrev had : Came
   had = came c (history_after c first es)
@@ -86,7 +88,7 @@ module _ (c : Config) (first : Contents) (s : State) (ways : List PutOut) (log :
   Led d a =
       let x : NodeData × Accepted =
       packet_accepted (receiver_side d) c (node_at (ends_of s ways log) (receiver_side d)) a in
-      Leads c first (accepted_on (ends_of s ways log) d x)
+      Leads c first usual (accepted_on (ends_of s ways log) d x)
       (λ e name k. came_by d a x.1.outcome e name k (had e name k))
 
   -- the packet goes in this direction, and is held
@@ -133,6 +135,10 @@ module _ (c : Config) (first : Contents) (s : State) (ways : List PutOut) (log :
             tells =
                 delivery_told c first (taken s S1 n) log (Take S1 n ∷ es) took.shown t.tells S1 gave
                 x refl;
+            alone = λ u. (
+              (t.alone u, record { event = event.Take S1 n; is = refl }),
+              record { event = event.Deliver S1; is = refl },
+            );
           };
           is = refl;
         };
@@ -170,6 +176,10 @@ module _ (c : Config) (first : Contents) (s : State) (ways : List PutOut) (log :
             tells =
                 delivery_told c first (taken s G1 n) log (Take G1 n ∷ es) took.shown t.tells G1 gave
                 x refl;
+            alone = λ u. (
+              (t.alone u, record { event = event.Take G1 n; is = refl }),
+              record { event = event.Deliver G1; is = refl },
+            );
           };
           is = refl;
         };
@@ -184,7 +194,7 @@ module _ (c : Config) (first : Contents) (s : State) (ways : List PutOut) (log :
         hands G2 = t.hands G2
 
   -- nothing has happened
-  same : Leads c first (ends_of s ways log) had
+  same : Leads c first usual (ends_of s ways log) had
   same = record {
     follows = record { state = s; events = es; tied = t; is = refl };
     comes = λ d name k. refl;
@@ -192,8 +202,8 @@ module _ (c : Config) (first : Contents) (s : State) (ways : List PutOut) (log :
 
   -- what is no part brings none
   still : {e : Ends} (i : Direction)
-      → Leads c first e had
-      → Leads c first e (λ d name k. (same_direction i d && false) || had d name k)
+      → Leads c first usual e had
+      → Leads c first usual e (λ d name k. (same_direction i d && false) || had d name k)
   still i l = record {
     follows = l.follows;
     comes = λ d name k. l.comes d name k ∙ go (same_direction i d) (had d name k);
@@ -214,7 +224,7 @@ module _ (c : Config) (first : Contents) (s : State) (ways : List PutOut) (log :
   harmless_up NoPart harmless = still Up same
   harmless_up (APart q) harmless = absurd cc
   harmless_up (AnAbort name reason) harmless =
-      still Up (closed_down c first s ways log es good t name)
+      still Up (closed_down c first usual s ways log es good t name)
 
   harmless_down : (a : Arrival)
       → is_harmless a ≡ true
@@ -227,12 +237,12 @@ module _ (c : Config) (first : Contents) (s : State) (ways : List PutOut) (log :
   harmless_down NoPart harmless = still Down same
   harmless_down (APart q) harmless = absurd cc
   harmless_down (AnAbort name reason) harmless =
-      still Down (closed_up c first s ways log es good t name)
+      still Down (closed_up c first usual s ways log es good t name)
 
   -- what may come does
   pub accept : (d : Direction) (b : List ℕ)
       → CanHappen c (ends_of s ways log) (steps.Accept d b)
-      → Leads c first (steps.after c (ends_of s ways log) (steps.Accept d b))
+      → Leads c first usual (steps.after c (ends_of s ways log) (steps.Accept d b))
       (λ e name k. came_after c (ends_of s ways log) (steps.Accept d b) e name k (had e name k))
   accept Up b (inl on) =
       let h : IsHeldAs s.link.packets on.packet =

@@ -8,9 +8,11 @@ use Rattle.lpt_packet.specs.Names.{Name}
 use Rattle.lpt_memory.specs.Memories.{Contents}
 use Rattle.lpt_memory.specs.Readings.{Job}
 use Rattle.lpt_events.specs.Configs.{IsConfig}
-use Rattle.lpt_acts.specs.Acts.{IsAct, Act, Open, Send, Plain, Finish, Tick, Expire, Claim, Commit, Apply, Restart, Setting, On, Back, Within}
+use Rattle.lpt_acts.specs.Acts.{IsAct, Act, act_of, Open, Send, Plain, Finish, Tick, Expire, Claim, Commit, Apply, Restart, Setting, On, Back, Within}
 use Rattle.lpt_events.specs.Sides.{direction_to}
 use Rattle.lpt_events.specs.declared.config.Config.{Config}
+use Rattle.lpt_events.specs.declared.event.Event.{Event}
+use Rattle.lpt_events.specs.declared.event.Event.TheVariants as event
 use Rattle.lpt_events.specs.declared.lane.Lane.{Lane}
 use Rattle.lpt_events.specs.declared.side.Side.{Side}
 use Rattle.lpt_events.specs.declared.side.Side.TheVariants.{Ground, Craft}
@@ -37,7 +39,7 @@ use Rattle.lpt_apart.specs.Steps.{CanHappen, with_report}
 use Rattle.lpt_apart.specs.Steps as steps
 use Rattle.lpt_apart.specs.Told.{log_told}
 use Rattle.lpt_apart.specs.Whole.{came_after}
-use Rattle.lpt_apart.specs.Worlds.{IsReadyNode}
+use Rattle.lpt_apart.specs.Worlds.{IsEventStep, IsOfAnEvent, IsReadyNode}
 use Rattle.lpt_apart.proofs.Links.{AllHeld, put_held, put_hands}
 use Rattle.lpt_apart.proofs.Telling.{plain_told, expiry_told, execution_told, execution_opens}
 use Rattle.lpt_apart.proofs.Ties.{ends_of, IsTied, Came, Leads, longer}
@@ -48,9 +50,10 @@ pub open_came : (b : Bool) (o : Opening) (before : Bool)
 open_came true o before = refl
 open_came false o before = refl
 
-module _ (c : Config) (first : Contents) (s : State) (ways : List PutOut) (log : Log)
+module _ (c : Config) (first : Contents) (usual : Type 0) (s : State) (ways : List PutOut)
+    (log : Log)
     (es : List Act)
-    (good : IsConfig c) (t : IsTied c first s ways log es) where
+    (good : IsConfig c) (t : IsTied c first usual s ways log es) where
   -- the world after an event
   abbrev state_after : Act → State
   state_after e = (after c (length (history_after c first es)) s e).0
@@ -61,7 +64,9 @@ module _ (c : Config) (first : Contents) (s : State) (ways : List PutOut) (log :
       came_after c (ends_of s ways log) x d name k (came c (history_after c first es) d name k)
 
   -- an event is done: it leaves no hand full, what may be handed over is held, and the log is told
-  once : (e : Act) (ways' : List PutOut) (log' : Log)
+  once : (e : Act)
+      → (usual → IsOfAnEvent e)
+      → (ways' : List PutOut) (log' : Log)
       → IsAct e
       → refusal_of c s e ≡ None
       → ((l : Lane) → hand_of (state_after e).link l ≡ None)
@@ -70,8 +75,8 @@ module _ (c : Config) (first : Contents) (s : State) (ways : List PutOut) (log :
       → {parts : Came}
       → ((d : Direction) (name : Name) (k : ℕ)
       → came c (history_after c first (e ∷ es)) d name k ≡ parts d name k)
-      → Leads c first (ends_of (state_after e) ways' log') parts
-  once e ways' log' ranged free hands held tells comes =
+      → Leads c first usual (ends_of (state_after e) ways' log') parts
+  once e alone ways' log' ranged free hands held tells comes =
       let more = longer c first s es e good t.legal t.shown ranged free in
       record {
         follows = record {
@@ -83,25 +88,30 @@ module _ (c : Config) (first : Contents) (s : State) (ways : List PutOut) (log :
             hands = hands;
             held = held;
             tells = tells;
+            alone = λ u. (t.alone u, alone u);
           };
           is = refl;
         };
         comes = comes;
       }
 
+  of : (x : Event) → usual → IsOfAnEvent (act_of x)
+  of x u = record { event = x; is = refl }
+
   -- ---- sending
 
   pub open_step : (d : Direction) (name : Name) (m : List ℕ)
       → CanHappen c (ends_of s ways log) (steps.Open d name m)
-      → Leads c first (steps.after c (ends_of s ways log) (steps.Open d name m))
+      → Leads c first usual (steps.after c (ends_of s ways log) (steps.Open d name m))
       (came_on (steps.Open d name m))
   open_step Up name m can =
-      once (Open Up name m) ways (Opened Up name m ∷ log) can.0 (ap (option_map node_fault) can.1)
+      once (Open Up name m) (of (event.Open Up name m)) ways (Opened Up name m ∷ log) can.0
+      (ap (option_map node_fault) can.1)
       t.hands t.held
       (ap (λ (l : Log). Opened Up name m ∷ l) t.tells)
       (λ e i k. open_came (is_same Up name e i) _ (came c (history_after c first es) e i k))
   open_step Down name m can =
-      once (Open Down name m) ways (Opened Down name m ∷ log) can.0
+      once (Open Down name m) (of (event.Open Down name m)) ways (Opened Down name m ∷ log) can.0
       (ap (option_map node_fault) can.1)
       t.hands t.held
       (ap (λ (l : Log). Opened Down name m ∷ l) t.tells)
@@ -109,27 +119,30 @@ module _ (c : Config) (first : Contents) (s : State) (ways : List PutOut) (log :
 
   pub send : (d : Direction) (name : Name) (k : ℕ)
       → CanHappen c (ends_of s ways log) (steps.Send d name k)
-      → Leads c first (steps.after c (ends_of s ways log) (steps.Send d name k))
+      → Leads c first usual (steps.after c (ends_of s ways log) (steps.Send d name k))
       (came_on (steps.Send d name k))
   send Up name k can =
       let b : List ℕ = (part_sent Ground c s.on_ground name k).1 in
-      once (Send Up name k) (put_out ways Up (Some name) (b ∷ [])) log can.0
+      once (Send Up name k) (of (event.Send Up name k)) (put_out ways Up (Some name) (b ∷ [])) log
+      can.0
       (ap (option_map node_fault) can.1) t.hands
       (put_held s.link ways Up (Some name) (b ∷ []) t.held) t.tells (λ e i k. refl)
   send Down name k can =
       let b : List ℕ = (part_sent Craft c s.on_craft name k).1 in
-      once (Send Down name k) (put_out ways Down (Some name) (b ∷ [])) log can.0
+      once (Send Down name k) (of (event.Send Down name k))
+      (put_out ways Down (Some name) (b ∷ [])) log can.0
       (ap (option_map node_fault) can.1) t.hands
       (put_held s.link ways Down (Some name) (b ∷ []) t.held) t.tells (λ e i k. refl)
 
   pub plain : (source flags service subtype : ℕ) (body : List ℕ)
       → CanHappen c (ends_of s ways log) (steps.Plain source flags service subtype body)
-      → Leads c first (steps.after c (ends_of s ways log)
+      → Leads c first usual (steps.after c (ends_of s ways log)
       (steps.Plain source flags service subtype body))
       (came_on (steps.Plain source flags service subtype body))
   plain source flags service subtype body can =
       let b : List ℕ = (plain_made c s.on_ground source flags service subtype body).1 in
-      once (Plain source flags service subtype body) (put_out ways Up None (b ∷ []))
+      once (Plain source flags service subtype body)
+      (of (event.Plain source flags service subtype body)) (put_out ways Up None (b ∷ []))
       (Asked b ∷ log) can.0
       (ap (option_map node_fault) can.1) t.hands
       (put_held s.link ways Up None (b ∷ []) t.held)
@@ -138,56 +151,73 @@ module _ (c : Config) (first : Contents) (s : State) (ways : List PutOut) (log :
 
   pub finish : (d : Direction) (name : Name)
       → CanHappen c (ends_of s ways log) (steps.Finish d name)
-      → Leads c first (steps.after c (ends_of s ways log) (steps.Finish d name))
+      → Leads c first usual (steps.after c (ends_of s ways log) (steps.Finish d name))
       (came_on (steps.Finish d name))
   finish Up name can =
-      once (Finish Up name) ways log can.0 (ap (option_map node_fault) can.1) t.hands t.held t.tells
+      once (Finish Up name) (of (event.Finish Up name)) ways log can.0
+      (ap (option_map node_fault) can.1) t.hands t.held t.tells
       (λ e i k. refl)
   finish Down name can =
-      once (Finish Down name) ways log can.0 (ap (option_map node_fault) can.1) t.hands
+      once (Finish Down name) (of (event.Finish Down name)) ways log can.0
+      (ap (option_map node_fault) can.1) t.hands
       t.held t.tells (λ e i k. refl)
 
   -- ---- time and restarts
 
   pub tick : (side : Side) (turn : Setting)
+      → (usual → IsEventStep (steps.Tick side turn))
       → CanHappen c (ends_of s ways log) (steps.Tick side turn)
-      → Leads c first (steps.after c (ends_of s ways log) (steps.Tick side turn))
+      → Leads c first usual (steps.after c (ends_of s ways log) (steps.Tick side turn))
       (came_on (steps.Tick side turn))
-  tick Ground On can =
-      once (Tick Ground On) ways log tt (ap (option_map node_fault) can) t.hands t.held t.tells
+  tick Ground On of_events can =
+      once (Tick Ground On) (of (event.Tick Ground)) ways log tt (ap (option_map node_fault) can)
+      t.hands t.held t.tells
       (λ e i k. refl)
-  tick Craft On can =
-      once (Tick Craft On) ways log tt (ap (option_map node_fault) can) t.hands t.held t.tells
+  tick Craft On of_events can =
+      once (Tick Craft On) (of (event.Tick Craft)) ways log tt (ap (option_map node_fault) can)
+      t.hands t.held t.tells
       (λ e i k. refl)
-  tick Ground (Within l) can =
-      once (Tick Ground (Within l)) ways log tt refl t.hands t.held t.tells (λ e i k. refl)
-  tick Craft (Within l) can =
-      once (Tick Craft (Within l)) ways log tt refl t.hands t.held t.tells (λ e i k. refl)
-  tick Ground (Back n) can =
-      once (Tick Ground (Back n)) ways log tt refl t.hands t.held t.tells (λ e i k. refl)
-  tick Craft (Back n) can =
-      once (Tick Craft (Back n)) ways log tt refl t.hands t.held t.tells (λ e i k. refl)
+  tick Ground (Within l) of_events can =
+      once (Tick Ground (Within l)) (λ u. absurd (of_events u)) ways log tt refl t.hands t.held
+      t.tells (λ e i k. refl)
+  tick Craft (Within l) of_events can =
+      once (Tick Craft (Within l)) (λ u. absurd (of_events u)) ways log tt refl t.hands t.held
+      t.tells (λ e i k. refl)
+  tick Ground (Back n) of_events can =
+      once (Tick Ground (Back n)) (λ u. absurd (of_events u)) ways log tt refl t.hands t.held
+      t.tells (λ e i k. refl)
+  tick Craft (Back n) of_events can =
+      once (Tick Craft (Back n)) (λ u. absurd (of_events u)) ways log tt refl t.hands t.held
+      t.tells (λ e i k. refl)
+
+  expiry : (side : Side) (which : Option Name)
+      → (usual → IsEventStep (steps.Expire side which))
+      → usual
+      → IsOfAnEvent (Expire side which)
+  expiry side None of_events u = of (event.Expire side) u
+  expiry side (Some name) of_events u = absurd (of_events u)
 
   pub expire : (side : Side) (which : Option Name)
+      → (usual → IsEventStep (steps.Expire side which))
       → CanHappen c (ends_of s ways log) (steps.Expire side which)
-      → Leads c first (steps.after c (ends_of s ways log) (steps.Expire side which))
+      → Leads c first usual (steps.after c (ends_of s ways log) (steps.Expire side which))
       (came_on (steps.Expire side which))
-  expire Ground which can =
+  expire Ground which of_events can =
       let x : NodeData × Ended =
       expired_of Ground c s.on_ground (which_ends c s.on_ground which) in
       let bs : List (List ℕ) = as_list x.1.packet in
       let free : refusal_of c s (Expire Ground which) ≡ None = ap (option_map node_fault) can in
-      once (Expire Ground which) (put_out ways Down None bs)
+      once (Expire Ground which) (expiry Ground which of_events) (put_out ways Down None bs)
       (Aborted (direction_to Ground) x.1.name ∷ log) tt free
       (λ l. put_hands s.link Down None bs l ∙ t.hands l)
       (put_held s.link ways Down None bs t.held)
       (expiry_told c first s log es t.shown t.tells Ground which
       (longer c first s es (Expire Ground which) good t.legal t.shown tt free)) (λ e i k. refl)
-  expire Craft which can =
+  expire Craft which of_events can =
       let x : NodeData × Ended = expired_of Craft c s.on_craft (which_ends c s.on_craft which) in
       let bs : List (List ℕ) = as_list x.1.packet in
       let free : refusal_of c s (Expire Craft which) ≡ None = ap (option_map node_fault) can in
-      once (Expire Craft which) (put_out ways Down None bs)
+      once (Expire Craft which) (expiry Craft which of_events) (put_out ways Down None bs)
       (Aborted (direction_to Craft) x.1.name ∷ log) tt free
       (λ l. put_hands s.link Down None bs l ∙ t.hands l)
       (put_held s.link ways Down None bs t.held)
@@ -196,35 +226,37 @@ module _ (c : Config) (first : Contents) (s : State) (ways : List PutOut) (log :
 
   pub restart : (side : Side)
       → CanHappen c (ends_of s ways log) (steps.Restart side)
-      → Leads c first (steps.after c (ends_of s ways log) (steps.Restart side))
+      → Leads c first usual (steps.after c (ends_of s ways log) (steps.Restart side))
       (came_on (steps.Restart side))
   restart Ground can =
-      once (Restart Ground) ways (Restarted Ground ∷ log) tt refl t.hands t.held
+      once (Restart Ground) (of (event.Restart Ground)) ways (Restarted Ground ∷ log) tt refl
+      t.hands t.held
       (ap (λ (l : Log). Restarted Ground ∷ l) t.tells) (λ e i k. refl)
   restart Craft can =
-      once (Restart Craft) ways (Restarted Craft ∷ log) tt refl t.hands t.held
+      once (Restart Craft) (of (event.Restart Craft)) ways (Restarted Craft ∷ log) tt refl t.hands
+      t.held
       (ap (λ (l : Log). Restarted Craft ∷ l) t.tells) (λ e i k. refl)
 
   -- ---- jobs
 
   pub claim : (w : Worker)
       → CanHappen c (ends_of s ways log) (steps.Claim w)
-      → Leads c first (steps.after c (ends_of s ways log) (steps.Claim w))
+      → Leads c first usual (steps.after c (ends_of s ways log) (steps.Claim w))
       (came_on (steps.Claim w))
   claim w can =
-      once (Claim w) ways log tt
+      once (Claim w) (of (event.Claim w)) ways log tt
       (ap (refusal_claim_by s.on_craft) can.0 ∙ ap (option_map node_fault) can.1) t.hands t.held
       t.tells (λ e i k. refl)
 
   pub commit : (w : Worker)
       → CanHappen c (ends_of s ways log) (steps.Commit w)
-      → Leads c first (steps.after c (ends_of s ways log) (steps.Commit w))
+      → Leads c first usual (steps.after c (ends_of s ways log) (steps.Commit w))
       (came_on (steps.Commit w))
   commit w can = go (ticket_of s.tickets w) refl can where
     go : (o : Option Job)
         → ticket_of s.tickets w ≡ o
         → is_some o ≡ true
-        → Leads c first (steps.committed_on c (ends_of s ways log) w o)
+        → Leads c first usual (steps.committed_on c (ends_of s ways log) w o)
         (came c (history_after c first es))
     go None e some = absurd cc
     go (Some j) e some =
@@ -243,6 +275,7 @@ module _ (c : Config) (first : Contents) (s : State) (ways : List PutOut) (log :
               hands = t.hands;
               held = t.held;
               tells = t.tells;
+              alone = λ u. (t.alone u, of (event.Commit w) u);
             };
             is = refl;
           };
@@ -250,11 +283,11 @@ module _ (c : Config) (first : Contents) (s : State) (ways : List PutOut) (log :
         }
 
   pub apply : CanHappen c (ends_of s ways log) steps.Apply
-      → Leads c first (steps.after c (ends_of s ways log) steps.Apply) (came_on steps.Apply)
+      → Leads c first usual (steps.after c (ends_of s ways log) steps.Apply) (came_on steps.Apply)
   apply can =
       let free : refusal_of c s Apply ≡ None = ap (option_map node_fault) can in
       let x = job_executed c s.on_craft s.memories in
-      once Apply (put_out ways Down None x.0.1.packets)
+      once Apply (of event.Apply) (put_out ways Down None x.0.1.packets)
       (Executed ∷ with_report log x.0.1.opened) tt free
       (λ l. put_hands s.link Down None x.0.1.packets l ∙ t.hands l)
       (put_held s.link ways Down None x.0.1.packets t.held)

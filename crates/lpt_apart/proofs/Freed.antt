@@ -24,21 +24,23 @@ AreUnheard n freed = (name : Name) → freed name ≡ true → maps.get n.receiv
 
 -- Two ends follow a world, to which these parts came, and receivers that know these names know less
 -- by the freed ones, of which no reception is open.
-pub record IsLess (c : Config) (first : Contents) (freed : Direction → Name → Bool) (w : Ends)
+pub record IsLess (c : Config) (first : Contents) (usual : Type 0)
+    (freed : Direction → Name → Bool) (w : Ends)
     (parts : Came) (g k : Marks) : Type 0 where
-  pub leads : Leads c first w parts
+  pub leads : Leads c first usual w parts
   pub on_ground : KnowsLess g (freed Down) w.on_ground.receiving.ledger
   pub on_craft : KnowsLess k (freed Up) w.on_craft.receiving.ledger
   pub no_down : AreUnheard w.on_ground (freed Down)
   pub no_up : AreUnheard w.on_craft (freed Up)
 
 -- two ends are some that follow a world, but for the freed names
-pub record IsBut (c : Config) (first : Contents) (freed : Direction → Name → Bool)
+pub record IsBut (c : Config) (first : Contents) (usual : Type 0)
+    (freed : Direction → Name → Bool)
     (e : Ends) (parts : Came) : Type 0 where
   pub whole : Ends
   pub on_ground : Marks
   pub on_craft : Marks
-  pub less : IsLess c first freed whole parts on_ground on_craft
+  pub less : IsLess c first usual freed whole parts on_ground on_craft
   pub is : with_ledgers on_ground on_craft whole ≡ e
 
 -- ---- what freeing changes
@@ -97,11 +99,13 @@ abbrev pub forgetting : Direction → Name → Ends → Ends
 forgetting d name e = record e { on_the_way = without d name e.on_the_way }
 
 -- they follow a world still
-pub forget : (c : Config) (first : Contents) (d : Direction) (name : Name) (e : Ends) (parts : Came)
-    → Leads c first e parts
-    → Leads c first (forgetting d name e) parts
-forget c first d name e parts l =
-    let f : Follows c first e = l.follows in
+pub forget : (c : Config) (first : Contents) (usual : Type 0) (d : Direction) (name : Name)
+    (e : Ends)
+    (parts : Came)
+    → Leads c first usual e parts
+    → Leads c first usual (forgetting d name e) parts
+forget c first usual d name e parts l =
+    let f : Follows c first usual e = l.follows in
     record {
       follows = record {
         state = f.state;
@@ -114,6 +118,7 @@ forget c first d name e parts l =
               held_without f.state.link.packets f.state.link.packets d name e.on_the_way
               (λ k p there other. there) f.tied.held;
           tells = f.tied.tells;
+          alone = f.tied.alone;
         };
         is = ap (λ (y : Ends). record y { on_the_way = without d name e.on_the_way }) f.is;
       };

@@ -27,6 +27,7 @@ use Rattle.lpt_model.specs.Tickets.{ticket_of}
 use Rattle.lpt_apart.specs.Ends.{Ends}
 use Rattle.lpt_apart.specs.Steps.{Step, Open, Send, Plain, Finish, Accept, Tick, Expire, Claim, Commit, Apply, Retire, Restart, CanHappen, after, sent_on, accepted_on, expired_on, claimed_on, committed_on, executed_on}
 use Rattle.lpt_apart.specs.Whole.{came_by, is_reported, came_after}
+use Rattle.lpt_apart.specs.Worlds.{IsEventStep}
 use Rattle.lpt_apart.specs.Moves.{with_ledger, with_ledgers, KnowsLess}
 use Rattle.lpt_apart.proofs.Lessening.{sent_less, sent_receiving, claimed_less, claimed_receiving, committed_less, committed_receiving, executed_less, executed_receiving}
 use Rattle.lpt_apart.proofs.Fewer.{accepted_less, expired_less}
@@ -42,8 +43,9 @@ use Rattle.std.specs.Option.{option_map}
 
 -- ---- steps
 
-module _ (c : Config) (first : Contents) (good : IsConfig c) (freed : Direction → Name → Bool)
-    (w : Ends) (parts : Came) (g k : Marks) (l : IsLess c first freed w parts g k) where
+module _ (c : Config) (first : Contents) (usual : Type 0) (good : IsConfig c)
+    (freed : Direction → Name → Bool)
+    (w : Ends) (parts : Came) (g k : Marks) (l : IsLess c first usual freed w parts g k) where
   -- what two ends are that know less
   abbrev ends : Ends
   ends = with_ledgers g k w
@@ -54,20 +56,21 @@ module _ (c : Config) (first : Contents) (good : IsConfig c) (freed : Direction 
 
   -- a step that no receiver has a part in
   quiet : (x : Step)
+      → (usual → IsEventStep x)
       → CanHappen c w x
       → with_ledgers g k (after c w x) ≡ after c ends x
       → came_with w x ≡ came_with ends x
       → (after c w x).on_ground.receiving ≡ w.on_ground.receiving
       → (after c w x).on_craft.receiving ≡ w.on_craft.receiving
-      → IsBut c first freed (after c ends x) (came_with ends x)
-  quiet x can is same rg rk = record {
+      → IsBut c first usual freed (after c ends x) (came_with ends x)
+  quiet x of_events can is same rg rk = record {
     whole = after c w x;
     on_ground = g;
     on_craft = k;
     less = record {
       leads =
-          subst (λ (p : Came). Leads c first (after c w x) p) same
-          (lead_on c first good w x parts l.leads can);
+          subst (λ (p : Came). Leads c first usual (after c w x) p) same
+          (lead_on c first usual good w x parts l.leads of_events can);
       on_ground = subst (λ (r : Receiving). KnowsLess g (freed Down) r.ledger) (sym rg) l.on_ground;
       on_craft = subst (λ (r : Receiving). KnowsLess k (freed Up) r.ledger) (sym rk) l.on_craft;
       no_down = λ name gone. ap (λ (r : Receiving). maps.get r.entries name) rg
@@ -79,32 +82,33 @@ module _ (c : Config) (first : Contents) (good : IsConfig c) (freed : Direction 
 
   send : (d : Direction) (name : Name) (n : ℕ)
       → CanHappen c ends (Send d name n)
-      → IsBut c first freed (after c ends (Send d name n)) (came_with ends (Send d name n))
+      → IsBut c first usual freed (after c ends (Send d name n)) (came_with ends (Send d name n))
   send Up name n can =
-      quiet (Send Up name n) can
+      quiet (Send Up name n) (λ u. tt) can
       (ap (λ (x : NodeData × List ℕ). sent_on ends Up name x)
       (sym (sent_less Ground c g w.on_ground name n (message_at w.on_ground name)))) refl
       (sent_receiving Ground c w.on_ground name n (message_at w.on_ground name)) refl
   send Down name n can =
-      quiet (Send Down name n) can
+      quiet (Send Down name n) (λ u. tt) can
       (ap (λ (x : NodeData × List ℕ). sent_on ends Down name x)
       (sym (sent_less Craft c k w.on_craft name n (message_at w.on_craft name))))
       refl refl (sent_receiving Craft c w.on_craft name n (message_at w.on_craft name))
 
   claim : (v : Worker)
       → CanHappen c ends (Claim v)
-      → IsBut c first freed (after c ends (Claim v)) (came_with ends (Claim v))
+      → IsBut c first usual freed (after c ends (Claim v)) (came_with ends (Claim v))
   claim v can =
-      quiet (Claim v) can
+      quiet (Claim v) (λ u. tt) can
       (ap (λ (x : NodeData × Job). claimed_on ends v x)
       (sym (claimed_less k w.on_craft (oldest_unclaimed w.on_craft.jobs))))
       refl refl (claimed_receiving w.on_craft (oldest_unclaimed w.on_craft.jobs))
 
   commit : (v : Worker)
       → CanHappen c ends (Commit v)
-      → IsBut c first freed (after c ends (Commit v)) (came_with ends (Commit v))
+      → IsBut c first usual freed (after c ends (Commit v)) (came_with ends (Commit v))
   commit v can =
-      quiet (Commit v) can (is (ticket_of w.tickets v)) refl (same_g (ticket_of w.tickets v))
+      quiet (Commit v) (λ u. tt) can (is (ticket_of w.tickets v)) refl
+      (same_g (ticket_of w.tickets v))
       (same_k (ticket_of w.tickets v)) where
         is : (o : Option Job) → with_ledgers g k (committed_on c w v o) ≡ committed_on c ends v o
         is None = refl
@@ -131,7 +135,8 @@ module _ (c : Config) (first : Contents) (good : IsConfig c) (freed : Direction 
               message = t.message;
             })
 
-  apply : CanHappen c ends Apply → IsBut c first freed (after c ends Apply) (came_with ends Apply)
+  apply : CanHappen c ends Apply
+      → IsBut c first usual freed (after c ends Apply) (came_with ends Apply)
   apply can =
       let same : ◌≡◌ {A = (NodeData × Execution) × Contents} (
         (
@@ -141,7 +146,8 @@ module _ (c : Config) (first : Contents) (good : IsConfig c) (freed : Direction 
         (job_executed c w.on_craft w.memories).1,
       ) (job_executed c ends.on_craft w.memories) =
       sym (executed_less c k w.on_craft w.memories (head_of w.on_craft.jobs.jobs)) in
-      quiet Apply can (ap (λ (x : (NodeData × Execution) × Contents). executed_on ends x) same)
+      quiet Apply (λ u. tt) can
+      (ap (λ (x : (NodeData × Execution) × Contents). executed_on ends x) same)
       (λ i d name n. if is_reported (same i).0.1.opened d name then false else parts d name n)
       refl (executed_receiving c w.on_craft w.memories (head_of w.on_craft.jobs.jobs))
 
@@ -149,13 +155,13 @@ module _ (c : Config) (first : Contents) (good : IsConfig c) (freed : Direction 
 
   restart : (side : Side)
       → CanHappen c ends (Restart side)
-      → IsBut c first freed (after c ends (Restart side)) (came_with ends (Restart side))
+      → IsBut c first usual freed (after c ends (Restart side)) (came_with ends (Restart side))
   restart Ground can = record {
     whole = after c w (Restart Ground);
     on_ground = g;
     on_craft = k;
     less = record {
-      leads = lead_on c first good w (Restart Ground) parts l.leads tt;
+      leads = lead_on c first usual good w (Restart Ground) parts l.leads (λ u. tt) tt;
       on_ground = l.on_ground;
       on_craft = l.on_craft;
       no_down = λ name gone. maps.get-empty name_cmp name;
@@ -168,7 +174,7 @@ module _ (c : Config) (first : Contents) (good : IsConfig c) (freed : Direction 
     on_ground = g;
     on_craft = k;
     less = record {
-      leads = lead_on c first good w (Restart Craft) parts l.leads tt;
+      leads = lead_on c first usual good w (Restart Craft) parts l.leads (λ u. tt) tt;
       on_ground = l.on_ground;
       on_craft = l.on_craft;
       no_down = l.no_down;
@@ -184,15 +190,16 @@ module _ (c : Config) (first : Contents) (good : IsConfig c) (freed : Direction 
   none_back n es name none = get-set_back n es name ∙ ap (option_map (earlier n)) none
 
   turn_back : (side : Side) (n : ℕ)
+      → (usual → IsEventStep (Tick side (Back n)))
       → CanHappen c ends (Tick side (Back n))
-      → IsBut c first freed (after c ends (Tick side (Back n)))
+      → IsBut c first usual freed (after c ends (Tick side (Back n)))
       (came_with ends (Tick side (Back n)))
-  turn_back Ground n can = record {
+  turn_back Ground n of_events can = record {
     whole = after c w (Tick Ground (Back n));
     on_ground = g;
     on_craft = k;
     less = record {
-      leads = lead_on c first good w (Tick Ground (Back n)) parts l.leads can;
+      leads = lead_on c first usual good w (Tick Ground (Back n)) parts l.leads of_events can;
       on_ground = l.on_ground;
       on_craft = l.on_craft;
       no_down = λ name gone. none_back n w.on_ground.receiving.entries name (l.no_down name gone);
@@ -200,12 +207,12 @@ module _ (c : Config) (first : Contents) (good : IsConfig c) (freed : Direction 
     };
     is = refl;
   }
-  turn_back Craft n can = record {
+  turn_back Craft n of_events can = record {
     whole = after c w (Tick Craft (Back n));
     on_ground = g;
     on_craft = k;
     less = record {
-      leads = lead_on c first good w (Tick Craft (Back n)) parts l.leads can;
+      leads = lead_on c first usual good w (Tick Craft (Back n)) parts l.leads of_events can;
       on_ground = l.on_ground;
       on_craft = l.on_craft;
       no_down = l.no_down;
@@ -216,14 +223,15 @@ module _ (c : Config) (first : Contents) (good : IsConfig c) (freed : Direction 
 
   -- other limits leave all receptions
   turn_within : (side : Side) (m : Limits)
-      → IsBut c first freed (after c ends (Tick side (Within m)))
+      → (usual → IsEventStep (Tick side (Within m)))
+      → IsBut c first usual freed (after c ends (Tick side (Within m)))
       (came_with ends (Tick side (Within m)))
-  turn_within Ground m = record {
+  turn_within Ground m of_events = record {
     whole = after c w (Tick Ground (Within m));
     on_ground = g;
     on_craft = k;
     less = record {
-      leads = lead_on c first good w (Tick Ground (Within m)) parts l.leads tt;
+      leads = lead_on c first usual good w (Tick Ground (Within m)) parts l.leads of_events tt;
       on_ground = l.on_ground;
       on_craft = l.on_craft;
       no_down = l.no_down;
@@ -231,12 +239,12 @@ module _ (c : Config) (first : Contents) (good : IsConfig c) (freed : Direction 
     };
     is = refl;
   }
-  turn_within Craft m = record {
+  turn_within Craft m of_events = record {
     whole = after c w (Tick Craft (Within m));
     on_ground = g;
     on_craft = k;
     less = record {
-      leads = lead_on c first good w (Tick Craft (Within m)) parts l.leads tt;
+      leads = lead_on c first usual good w (Tick Craft (Within m)) parts l.leads of_events tt;
       on_ground = l.on_ground;
       on_craft = l.on_craft;
       no_down = l.no_down;
@@ -246,9 +254,11 @@ module _ (c : Config) (first : Contents) (good : IsConfig c) (freed : Direction 
   }
 
   expire : (side : Side) (which : Option Name)
+      → (usual → IsEventStep (Expire side which))
       → CanHappen c ends (Expire side which)
-      → IsBut c first freed (after c ends (Expire side which)) (came_with ends (Expire side which))
-  expire Ground which can =
+      → IsBut c first usual freed (after c ends (Expire side which))
+      (came_with ends (Expire side which))
+  expire Ground which of_events can =
       let x = expired_less Ground c g w.on_ground (which_ends c w.on_ground which) (freed Down)
       l.on_ground (not_freed c w.on_ground (freed Down) which l.no_down) in
       record {
@@ -256,7 +266,7 @@ module _ (c : Config) (first : Contents) (good : IsConfig c) (freed : Direction 
         on_ground = x.marks;
         on_craft = k;
         less = record {
-          leads = lead_on c first good w (Expire Ground which) parts l.leads can;
+          leads = lead_on c first usual good w (Expire Ground which) parts l.leads of_events can;
           on_ground = x.knows;
           on_craft = l.on_craft;
           no_down = λ name gone. x.unheard name gone (l.no_down name gone);
@@ -264,7 +274,7 @@ module _ (c : Config) (first : Contents) (good : IsConfig c) (freed : Direction 
         };
         is = ap (λ (y : NodeData × Expired). expired_on ends Ground y) (sym x.is);
       }
-  expire Craft which can =
+  expire Craft which of_events can =
       let x = expired_less Craft c k w.on_craft (which_ends c w.on_craft which) (freed Up)
       l.on_craft (not_freed c w.on_craft (freed Up) which l.no_up) in
       record {
@@ -272,7 +282,7 @@ module _ (c : Config) (first : Contents) (good : IsConfig c) (freed : Direction 
         on_ground = g;
         on_craft = x.marks;
         less = record {
-          leads = lead_on c first good w (Expire Craft which) parts l.leads can;
+          leads = lead_on c first usual good w (Expire Craft which) parts l.leads of_events can;
           on_ground = l.on_ground;
           on_craft = x.knows;
           no_down = l.no_down;
@@ -305,7 +315,7 @@ module _ (c : Config) (first : Contents) (good : IsConfig c) (freed : Direction 
   accept : (d : Direction) (b : List ℕ)
       → CanHappen c ends (Accept d b)
       → is_stale freed d (arrival_in c d b) ≡ false
-      → IsBut c first freed (after c ends (Accept d b)) (came_with ends (Accept d b))
+      → IsBut c first usual freed (after c ends (Accept d b)) (came_with ends (Accept d b))
   accept Up b can new =
       let x = accepted_less Craft c k w.on_craft (arrival_in c Up b) (freed Up) l.on_craft
       (new_part Up (arrival_in c Up b) new) in
@@ -315,10 +325,11 @@ module _ (c : Config) (first : Contents) (good : IsConfig c) (freed : Direction 
         on_craft = x.marks;
         less = record {
           leads =
-              subst (λ (o : Outcome). Leads c first (after c w (Accept Up b))
+              subst (λ (o : Outcome). Leads c first usual (after c w (Accept Up b))
               (λ e name n. came_by Up (arrival_in c Up b) o e name n (parts e name n)))
               (ap (λ (y : NodeData × Accepted). y.1.outcome) (sym x.is))
-              (lead_on c first good w (Accept Up b) parts l.leads (may_come Up b can));
+              (lead_on c first usual good w (Accept Up b) parts l.leads (λ u. tt) (may_come Up b
+              can));
           on_ground = l.on_ground;
           on_craft = x.knows;
           no_down = l.no_down;
@@ -335,10 +346,11 @@ module _ (c : Config) (first : Contents) (good : IsConfig c) (freed : Direction 
         on_craft = k;
         less = record {
           leads =
-              subst (λ (o : Outcome). Leads c first (after c w (Accept Down b))
+              subst (λ (o : Outcome). Leads c first usual (after c w (Accept Down b))
               (λ e name n. came_by Down (arrival_in c Down b) o e name n (parts e name n)))
               (ap (λ (y : NodeData × Accepted). y.1.outcome) (sym x.is))
-              (lead_on c first good w (Accept Down b) parts l.leads (may_come Down b can));
+              (lead_on c first usual good w (Accept Down b) parts l.leads (λ u. tt) (may_come Down
+              b can));
           on_ground = x.knows;
           on_craft = l.on_craft;
           no_down = λ name gone. x.unheard name gone (l.no_down name gone);
@@ -357,24 +369,30 @@ module _ (c : Config) (first : Contents) (good : IsConfig c) (freed : Direction 
 
   -- two ends that know less do a step
   pub step : (x : Step)
+      → (usual → IsEventStep x)
       → CanHappen c ends x
       → IsUsual x
-      → IsBut c first freed (after c ends x) (came_with ends x)
-  step (Open Up name m) can usual = quiet (Open Up name m) can refl refl refl refl
-  step (Open Down name m) can usual = quiet (Open Down name m) can refl refl refl refl
-  step (Send d name n) can usual = send d name n can
-  step (Plain source flags service subtype body) can usual =
-      quiet (Plain source flags service subtype body) can refl refl refl refl
-  step (Finish Up name) can usual = quiet (Finish Up name) can refl refl refl refl
-  step (Finish Down name) can usual = quiet (Finish Down name) can refl refl refl refl
-  step (Accept d b) can usual = accept d b can usual
-  step (Tick Ground On) can usual = quiet (Tick Ground On) can refl refl refl refl
-  step (Tick Craft On) can usual = quiet (Tick Craft On) can refl refl refl refl
-  step (Tick side (Back n)) can usual = turn_back side n can
-  step (Tick side (Within m)) can usual = turn_within side m
-  step (Expire side which) can usual = expire side which can
-  step (Claim v) can usual = claim v can
-  step (Commit v) can usual = commit v can
-  step Apply can usual = apply can
-  step (Retire d name) can usual = absurd usual
-  step (Restart side) can usual = restart side can
+      → IsBut c first usual freed (after c ends x) (came_with ends x)
+  step (Open Up name m) of_events can plain =
+      quiet (Open Up name m) (λ u. tt) can refl refl refl refl
+  step (Open Down name m) of_events can plain =
+      quiet (Open Down name m) (λ u. tt) can refl refl refl refl
+  step (Send d name n) of_events can plain = send d name n can
+  step (Plain source flags service subtype body) of_events can plain =
+      quiet (Plain source flags service subtype body) (λ u. tt) can refl refl refl refl
+  step (Finish Up name) of_events can plain =
+      quiet (Finish Up name) (λ u. tt) can refl refl refl refl
+  step (Finish Down name) of_events can plain =
+      quiet (Finish Down name) (λ u. tt) can refl refl refl refl
+  step (Accept d b) of_events can plain = accept d b can plain
+  step (Tick Ground On) of_events can plain =
+      quiet (Tick Ground On) (λ u. tt) can refl refl refl refl
+  step (Tick Craft On) of_events can plain = quiet (Tick Craft On) (λ u. tt) can refl refl refl refl
+  step (Tick side (Back n)) of_events can plain = turn_back side n of_events can
+  step (Tick side (Within m)) of_events can plain = turn_within side m of_events
+  step (Expire side which) of_events can plain = expire side which of_events can
+  step (Claim v) of_events can plain = claim v can
+  step (Commit v) of_events can plain = commit v can
+  step Apply of_events can plain = apply can
+  step (Retire d name) of_events can plain = absurd plain
+  step (Restart side) of_events can plain = restart side can

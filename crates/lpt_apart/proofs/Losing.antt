@@ -8,6 +8,7 @@ use Rattle.lpt_packet.specs.Names.{Name}
 use Rattle.lpt_memory.specs.Memories.{Contents}
 use Rattle.lpt_events.specs.Configs.{IsConfig}
 use Rattle.lpt_events.specs.declared.config.Config.{Config}
+use Rattle.lpt_events.specs.declared.event.Event.TheVariants as event
 use Rattle.lpt_acts.specs.Acts.{Act, Lose}
 use Rattle.lpt_events.specs.declared.lane.Lane.{Lane}
 use Rattle.lpt_link.specs.declared.fault.LinkFault.TheVariants.{NotHeld}
@@ -20,6 +21,7 @@ use Rattle.lpt_journal.specs.Legal.{Legal}
 use Rattle.lpt_journal.specs.Replies.{history_after}
 use Rattle.lpt_journal.specs.Whole.{came}
 use Rattle.lpt_apart.specs.Told.{log_told}
+use Rattle.lpt_apart.specs.Worlds.{AreOfEvents}
 use Rattle.lpt_apart.proofs.Links.{unheld, get_lost}
 use Rattle.lpt_link.proofs.PacketLists.{length-with_lost}
 use Rattle.lpt_apart.proofs.Ties.{longer}
@@ -49,6 +51,7 @@ pub record WereLost (c : Config) (first : Contents) (s : State) (es : List Act) 
   pub tells : log_told c (history_after c first events) ≡ log_told c (history_after c first es)
   pub comes : (e : Direction) (i : Name) (k : ℕ)
       → came c (history_after c first events) e i k ≡ came c (history_after c first es) e i k
+  pub alone : AreOfEvents es → AreOfEvents events
 
 -- ---- one packet
 
@@ -147,6 +150,7 @@ module _ (c : Config) (first : Contents) (good : IsConfig c) (s : State) (es : L
         many = had.many;
         tells = had.tells;
         comes = had.comes;
+        alone = had.alone;
       }
       go true e =
           let held : is_held had.link n ≡ true = held_is d name (slice_get had.link.packets n) e in
@@ -168,6 +172,7 @@ module _ (c : Config) (first : Contents) (good : IsConfig c) (s : State) (es : L
             many = length-with_lost had.link.packets n ∙ had.many;
             tells = had.tells;
             comes = had.comes;
+            alone = λ u. (had.alone u, record { event = event.Lose n; is = refl });
           }
 
   -- all below a number
@@ -186,5 +191,6 @@ module _ (c : Config) (first : Contents) (good : IsConfig c) (s : State) (es : L
     many = refl;
     tells = refl;
     comes = λ e i k. refl;
+    alone = λ u. u;
   }
   lose_below legal shown (suc n) = lose_next n (lose_below legal shown n)

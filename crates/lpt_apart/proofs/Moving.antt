@@ -19,7 +19,7 @@ use Rattle.lpt_apart.specs.Facts.{AllDue, requests_executed as executed_in, wait
 use Rattle.lpt_apart.specs.Steps.{Accept, Retire, after}
 use Rattle.lpt_apart.specs.Worlds.{IsPromised}
 use Rattle.lpt_apart.specs.Whole.{came_moved, came_in, WithholdsNothing, EndsApartWithholdNothing}
-use Rattle.lpt_apart.specs.Moves.{Pair, Move, Do, Free, pair_after, CanMove, came_to, CanMoveAll, with_ledgers, EndsApartAreAWorld, EndsApartKeepThePromise}
+use Rattle.lpt_apart.specs.Moves.{AreEventMoves, IsEventMove, Pair, Move, Do, Free, pair_after, CanMove, came_to, CanMoveAll, with_ledgers, EndsApartAreAWorld, EndsApartKeepThePromise}
 use Rattle.lpt_apart.proofs.Promise.{promised}
 use Rattle.lpt_apart.proofs.Withheld.{withholds_nothing}
 use Rattle.lpt_apart.proofs.Stepping.{leads_off, lead_on, is_a_world}
@@ -29,8 +29,9 @@ use Rattle.lpt_apart.proofs.Silence.{AreSilent, AreMute, silent_on}
 use Rattle.lpt_apart.proofs.Ties.{Came}
 use Rattle.lpt_apart.proofs.Staleness.{are_mute, not_stale, silent_whole, mute_less}
 
-module _ (c : Config) (first : Contents) (good : IsConfig c) (freed : Direction → Name → Bool)
-    (w : Ends) (parts : Came) (g k : Marks) (l : IsLess c first freed w parts g k)
+module _ (c : Config) (first : Contents) (usual : Type 0) (good : IsConfig c)
+    (freed : Direction → Name → Bool)
+    (w : Ends) (parts : Came) (g k : Marks) (l : IsLess c first usual freed w parts g k)
     (silent : AreSilent freed (with_ledgers g k w)) where
   -- two ends that know less
   abbrev pair : Pair
@@ -39,14 +40,14 @@ module _ (c : Config) (first : Contents) (good : IsConfig c) (freed : Direction 
   -- the receiver frees a name
   free : (d : Direction) (name : Name)
       → CanMove c pair (Free d name)
-      → IsBut c first (pair_after c pair (Free d name)).freed
+      → IsBut c first usual (pair_after c pair (Free d name)).freed
       (pair_after c pair (Free d name)).ends parts
   free Up name can = record {
     whole = forgetting Up name w;
     on_ground = g;
     on_craft = maps.remove k name;
     less = record {
-      leads = forget c first Up name w parts l.leads;
+      leads = forget c first usual Up name w parts l.leads;
       on_ground = l.on_ground;
       on_craft = less_removed k w.on_craft.receiving.ledger (freed Up) name l.on_craft;
       no_down = l.no_down;
@@ -60,7 +61,7 @@ module _ (c : Config) (first : Contents) (good : IsConfig c) (freed : Direction 
     on_ground = maps.remove g name;
     on_craft = k;
     less = record {
-      leads = forget c first Down name w parts l.leads;
+      leads = forget c first usual Down name w parts l.leads;
       on_ground = less_removed g w.on_ground.receiving.ledger (freed Down) name l.on_ground;
       on_craft = l.on_craft;
       no_down = removed_unheard w.on_ground (freed Down) name l.no_down
@@ -73,14 +74,14 @@ module _ (c : Config) (first : Contents) (good : IsConfig c) (freed : Direction 
   -- the sender frees a name too
   retire : (d : Direction) (name : Name)
       → CanMove c pair (Do (Retire d name))
-      → IsBut c first (pair_after c pair (Do (Retire d name))).freed
+      → IsBut c first usual (pair_after c pair (Do (Retire d name))).freed
       (pair_after c pair (Do (Retire d name))).ends parts
   retire Up name can = record {
     whole = after c w (Retire Up name);
     on_ground = g;
     on_craft = k;
     less = record {
-      leads = lead_on c first good w (Retire Up name) parts l.leads (
+      leads = lead_on c first usual good w (Retire Up name) parts l.leads (λ u. tt) (
         can.0,
         record {
           closed = silent.shut Up name can.1;
@@ -100,7 +101,7 @@ module _ (c : Config) (first : Contents) (good : IsConfig c) (freed : Direction 
     on_ground = g;
     on_craft = k;
     less = record {
-      leads = lead_on c first good w (Retire Down name) parts l.leads (
+      leads = lead_on c first usual good w (Retire Down name) parts l.leads (λ u. tt) (
         can.0,
         record {
           closed = silent.shut Down name can.1;
@@ -117,34 +118,38 @@ module _ (c : Config) (first : Contents) (good : IsConfig c) (freed : Direction 
   }
 
   -- a move
-  move : (x : Move) → CanMove c pair x
-      → IsBut c first (pair_after c pair x).freed (pair_after c pair x).ends
+  move : (x : Move)
+      → (usual → IsEventMove x)
+      → CanMove c pair x
+      → IsBut c first usual (pair_after c pair x).freed (pair_after c pair x).ends
       (λ d name n. came_moved c pair x d name n (parts d name n))
-  move (Do (Accept d b)) can =
-      step c first good freed w parts g k l (Accept d b) can
-      (not_stale c first freed w d b good l.leads.follows (silent_whole freed g k w silent)
-      (may_come c first good freed w parts g k l d b can))
-  move (Do (Retire d name)) can = retire d name can
-  move (Do x) can = step c first good freed w parts g k l x can tt
-  move (Free d name) can = free d name can
+  move (Do (Accept d b)) of_events can =
+      step c first usual good freed w parts g k l (Accept d b) (λ u. tt) can
+      (not_stale c first usual freed w d b good l.leads.follows (silent_whole freed g k w silent)
+      (may_come c first usual good freed w parts g k l d b can))
+  move (Do (Retire d name)) of_events can = retire d name can
+  move (Do x) of_events can = step c first usual good freed w parts g k l x of_events can tt
+  move (Free d name) of_events can = free d name can
 
 -- Two ends are a world's but for freed names, and of those no part comes.
-pub record AreApart (c : Config) (first : Contents) (p : Pair) (parts : Came) : Type 0 where
-  pub but : IsBut c first p.freed p.ends parts
+pub record AreApart (c : Config) (first : Contents) (usual : Type 0) (p : Pair) (parts : Came)
+    : Type 0 where
+  pub but : IsBut c first usual p.freed p.ends parts
   pub silent : AreSilent p.freed p.ends
 
 -- whatever moves they did
-pub apart : (c : Config) (first : Contents) (xs : List Move)
+pub apart : (c : Config) (first : Contents) (usual : Type 0) (xs : List Move)
     → IsConfig c
+    → (usual → AreEventMoves xs)
     → CanMoveAll c first xs
-    → AreApart c first (came_to c first xs) (came_in c first xs)
-apart c first [] good can = record {
+    → AreApart c first usual (came_to c first xs) (came_in c first xs)
+apart c first usual [] good of_events can = record {
   but = record {
     whole = no_ends c first;
     on_ground = maps.empty;
     on_craft = maps.empty;
     less = record {
-      leads = leads_off c first;
+      leads = leads_off c first usual;
       on_ground = λ name. refl;
       on_craft = λ name. refl;
       no_down = λ name gone. absurd cc;
@@ -154,37 +159,40 @@ apart c first [] good can = record {
   };
   silent = record { shut = λ d name is. absurd cc; gone = λ d name is. refl };
 }
-apart c first (x ∷ xs) good can =
+apart c first usual (x ∷ xs) good of_events can =
     let p : Pair = came_to c first xs in
     let parts : Came = came_in c first xs in
-    let a : AreApart c first p parts = apart c first xs good can.0 in
-    let b : IsBut c first p.freed p.ends parts = a.but in
+    let a : AreApart c first usual p parts =
+    apart c first usual xs good (λ u. (of_events u).0) can.0 in
+    let b : IsBut c first usual p.freed p.ends parts = a.but in
     let mute : AreMute p.ends =
     subst (λ (e : Ends). AreMute e) b.is
-    (mute_less b.on_ground b.on_craft b.whole (are_mute c first b.whole b.less.leads.follows)) in
+    (mute_less b.on_ground b.on_craft b.whole (are_mute c first usual b.whole
+    b.less.leads.follows)) in
     record {
       but =
           subst (λ (e : Ends). AreSilent p.freed e
           → CanMove c (record { ends = e; freed = p.freed }) x
-          → IsBut c first (pair_after c (record { ends = e; freed = p.freed }) x).freed
+          → IsBut c first usual (pair_after c (record { ends = e; freed = p.freed }) x).freed
           (pair_after c (record { ends = e; freed = p.freed }) x).ends
           (λ d name n.
           came_moved c (record { ends = e; freed = p.freed }) x d name n (parts d name n)))
           b.is
           (λ silent can.
-          move c first good p.freed b.whole parts b.on_ground b.on_craft b.less silent x can)
+          move c first usual good p.freed b.whole parts b.on_ground b.on_craft b.less silent x
+          (λ u. (of_events u).1) can)
           a.silent can.1;
       silent = silent_on c p x can.1 mute a.silent;
     }
 
 pub ends_apart_are_a_world : EndsApartAreAWorld
 ends_apart_are_a_world c first xs good can =
-    let b = (apart c first xs good can).but in
+    let b = (apart c first (AreEventMoves xs) xs good (λ u. u) can).but in
     record {
       whole = b.whole;
       on_ground = b.on_ground;
       on_craft = b.on_craft;
-      world = is_a_world c first b.whole good b.less.leads.follows;
+      world = is_a_world c first (AreEventMoves xs) b.whole good b.less.leads.follows;
       less_on_ground = b.less.on_ground;
       less_on_craft = b.less.on_craft;
       is = b.is;
@@ -192,9 +200,9 @@ ends_apart_are_a_world c first xs good can =
 
 pub ends_apart_keep_the_promise : EndsApartKeepThePromise
 ends_apart_keep_the_promise c first xs good can =
-    let b = (apart c first xs good can).but in
+    let b = (apart c first ⊥ xs good (λ u. absurd u) can).but in
     let whole : IsPromised c first b.whole =
-    promised c first b.whole good (is_a_world c first b.whole good b.less.leads.follows) in
+    promised c first ⊥ b.whole good (is_a_world c first ⊥ b.whole good b.less.leads.follows) in
     record {
       due = subst (λ (e : Ends). AllDue e.log) b.is whole.due;
       memories = subst (λ (e : Ends). e.memories ≡ left_by c.apid (executed_in e.log) first) b.is
@@ -206,6 +214,6 @@ ends_apart_keep_the_promise c first xs good can =
 
 pub ends_apart_withhold_nothing : EndsApartWithholdNothing
 ends_apart_withhold_nothing c first xs good can =
-    let b = (apart c first xs good can).but in
+    let b = (apart c first ⊥ xs good (λ u. absurd u) can).but in
     subst (λ (e : Ends). WithholdsNothing c e.log (came_in c first xs)) b.is
-    (withholds_nothing c first b.whole (came_in c first xs) good b.less.leads)
+    (withholds_nothing c first ⊥ b.whole (came_in c first xs) good b.less.leads)

@@ -17,7 +17,7 @@ use Rattle.lpt_refinement.specs.Views.{JobsView, jobs_view}
 use Rattle.lpt_apart.specs.Ends.{Ends}
 use Rattle.lpt_apart.specs.Facts.{AllDue, requests_executed, waiting, Log}
 use Rattle.lpt_apart.specs.Steps.{ends_reached}
-use Rattle.lpt_apart.specs.Worlds.{IsAWorld, IsPromised, EndsKeepThePromise}
+use Rattle.lpt_apart.specs.Worlds.{AreEventSteps, IsAWorld, IsPromised, EndsKeepThePromise}
 use Rattle.lpt_apart.proofs.Dues.{all_due}
 use Rattle.lpt_apart.proofs.Queues.{executed_told, message_of, waiting_told}
 use Rattle.lpt_apart.proofs.Stepping.{ends_are_a_world}
@@ -39,12 +39,12 @@ of_first v n (m ∷ ms) r is = go (nat_lt n v.claimed) (v.committed n) is where
   go true true is = let same : read ≡ r = cc in ap (λ (s : Source). Some s.message) same
 
 -- what stands at the spacecraft's front is the oldest request that waits
-is_next : (c : Config) (first : Contents) (e : Ends)
-    → IsAWorld c first e
+is_next : (c : Config) (first : Contents) (usual : Type 0) (e : Ends)
+    → IsAWorld c first usual e
     → (r : Source)
     → head_of e.on_craft.jobs.jobs ≡ Ready r
     → slice_get (waiting e.log) 0 ≡ Some r.message
-is_next c first e w r is =
+is_next c first usual e w r is =
     let h : History = history_after c first w.events in
     let v : JobsView = jobs_view c first h in
     let waits : waiting e.log ≡ drop v.applied v.messages =
@@ -57,19 +57,20 @@ is_next c first e w r is =
     ∙ of_first v v.applied (drop v.applied v.messages) r (sym there ∙ is)
 
 -- what is promised of a world is promised of ends that are one
-pub promised : (c : Config) (first : Contents) (e : Ends)
+pub promised : (c : Config) (first : Contents) (usual : Type 0) (e : Ends)
     → IsConfig c
-    → IsAWorld c first e
+    → IsAWorld c first usual e
     → IsPromised c first e
-promised c first e good w = record {
+promised c first usual e good w = record {
   due = subst (λ (l : Log). AllDue l) w.log (all_due c first good w.events w.legal);
   memories =
       sym w.memories ∙ w.shown.memories
       ∙ ap (λ (ms : List (List ℕ)). left_by c.apid ms first)
       (sym (executed_told c first w.events w.legal) ∙ ap requests_executed w.log);
-  next = is_next c first e w;
+  next = is_next c first usual e w;
 }
 
 pub ends_keep_the_promise : EndsKeepThePromise
 ends_keep_the_promise c first xs good can =
-    promised c first (ends_reached c first xs) good (ends_are_a_world c first xs good can)
+    promised c first (AreEventSteps xs) (ends_reached c first xs) good
+    (ends_are_a_world c first xs good can)

@@ -11,6 +11,7 @@ use Rattle.lpt_events.specs.Configs.{IsConfig}
 use Rattle.lpt_events.specs.Lanes.{lanes}
 use Rattle.lpt_events.specs.Sides.{sender_side, receiver_side}
 use Rattle.lpt_events.specs.declared.config.Config.{Config}
+use Rattle.lpt_events.specs.declared.event.Event.TheVariants as event
 use Rattle.lpt_acts.specs.Acts.{Act, Retire}
 use Rattle.lpt_events.specs.declared.lane.Lane.{Lane}
 use Rattle.lpt_events.specs.declared.side.Side.{Side}
@@ -69,14 +70,15 @@ same_node : (s : State) (link : LinkData) (ways : List PutOut) (log : Log) (side
 same_node s link ways log Ground = refl
 same_node s link ways log Craft = refl
 
-pub retire : (c : Config) (first : Contents) (s : State) (ways : List PutOut) (log : Log)
+pub retire : (c : Config) (first : Contents) (usual : Type 0) (s : State) (ways : List PutOut)
+    (log : Log)
     (es : List Act) (d : Direction) (name : Name)
     → IsConfig c
-    → IsTied c first s ways log es
+    → IsTied c first usual s ways log es
     → CanHappen c (ends_of s ways log) (steps.Retire d name)
-    → Leads c first (steps.after c (ends_of s ways log) (steps.Retire d name))
+    → Leads c first usual (steps.after c (ends_of s ways log) (steps.Retire d name))
     (came c (history_after c first es))
-retire c first s ways log es d name good t can =
+retire c first usual s ways log es d name good t can =
     let n : ℕ = length s.link.packets in
     let cut : WereLost c first s es d name n =
     lose_below c first good s es d name t.legal t.shown n in
@@ -109,6 +111,10 @@ retire c first s ways log es d name good t can =
           hands = hands;
           held = held_without s.link.packets cut.link.packets d name ways cut.kept t.held;
           tells = ap (λ (l : Log). Retired d name ∷ l) (cut.tells ∙ t.tells);
+          alone = λ u. (
+            cut.alone (t.alone u),
+            record { event = event.Retire d name; is = refl },
+          );
         };
         is = refl;
       };

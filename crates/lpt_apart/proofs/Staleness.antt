@@ -47,8 +47,10 @@ mute_of x (OpenSender m) name mark message shut =
 mute_of x ClosedSender name mark message shut = message
 
 -- no sender of theirs that is closed has a message
-pub are_mute : (c : Config) (first : Contents) (e : Ends) → Follows c first e → AreMute e
-are_mute c first e f = subst (λ (y : Ends). AreMute y) f.is at where
+pub are_mute : (c : Config) (first : Contents) (usual : Type 0) (e : Ends)
+    → Follows c first usual e
+    → AreMute e
+are_mute c first usual e f = subst (λ (y : Ends). AreMute y) f.is at where
   h : History
   h = history_after c first f.events
 
@@ -63,12 +65,12 @@ are_mute c first e f = subst (λ (y : Ends). AreMute y) f.is at where
       (x.messages name) shut
 
 -- what was put out is a part of the transaction that its octets name
-named : (c : Config) (first : Contents) (e : Ends) (d : Direction) (b : List ℕ)
+named : (c : Config) (first : Contents) (usual : Type 0) (e : Ends) (d : Direction) (b : List ℕ)
     → IsConfig c
-    → Follows c first e
+    → Follows c first usual e
     → (on : IsOnTheWay e d b)
     → part_name (arrival_in c d b) ≡ on.packet.part_of
-named c first e d b good f on =
+named c first usual e d b good f on =
     let h : History = history_after c first f.events in
     let packets : List LinkPacket = f.state.link.packets in
     let is : IsHeldAs packets on.packet =
@@ -94,18 +96,20 @@ is_stale freed d (APart q) = freed d q.name
 is_stale freed d _ = false
 
 -- no part of a freed name comes
-pub not_stale : (c : Config) (first : Contents) (freed : Direction → Name → Bool) (e : Ends)
+pub not_stale : (c : Config) (first : Contents) (usual : Type 0)
+    (freed : Direction → Name → Bool) (e : Ends)
     (d : Direction) (b : List ℕ)
     → IsConfig c
-    → Follows c first e
+    → Follows c first usual e
     → AreSilent freed e
     → MayCome c e d b
     → is_stale freed d (arrival_in c d b) ≡ false
-not_stale c first freed e d b good f silent (inr harmless) = go (arrival_in c d b) harmless where
-  go : (a : Arrival) → is_harmless a ≡ true → is_stale freed d a ≡ false
-  go (APart q) harmless = absurd cc
-  go a harmless = refl
-not_stale c first freed e d b good f silent (inl on) = go (arrival_in c d b) refl where
+not_stale c first usual freed e d b good f silent (inr harmless) =
+    go (arrival_in c d b) harmless where
+      go : (a : Arrival) → is_harmless a ≡ true → is_stale freed d a ≡ false
+      go (APart q) harmless = absurd cc
+      go a harmless = refl
+not_stale c first usual freed e d b good f silent (inl on) = go (arrival_in c d b) refl where
   part : (q : NamedPart)
       → arrival_in c d b ≡ APart q
       → (t : Bool)
@@ -114,7 +118,7 @@ not_stale c first freed e d b good f silent (inl on) = go (arrival_in c d b) ref
   part q is false gone = refl
   part q is true gone =
       let tag : on.packet.part_of ≡ Some q.name =
-      sym (named c first e d b good f on) ∙ ap part_name is in
+      sym (named c first usual e d b good f on) ∙ ap part_name is in
       let yes : is_part d q.name on.packet ≡ true =
       (λ i. same_direction (on.goes i) d && option_eq same_name (tag i) (Some q.name))
       ∙ (λ i. same_direction-refl d i && same_name-refl q.name i) in

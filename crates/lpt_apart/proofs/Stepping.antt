@@ -15,41 +15,48 @@ use Rattle.lpt_apart.specs.Ends.{PutOut, Ends, no_ends}
 use Rattle.lpt_apart.specs.Facts.{Log}
 use Rattle.lpt_apart.specs.Steps.{Step, Open, Send, Plain, Finish, Accept, Tick, Expire, Claim, Commit, Apply, Retire, Restart, CanHappen, CanRun, after, ends_reached}
 use Rattle.lpt_apart.specs.Whole.{came_after, came}
-use Rattle.lpt_apart.specs.Worlds.{IsReadyNode, IsAWorld, EndsAreAWorld}
+use Rattle.lpt_apart.specs.Worlds.{AreEventSteps, IsEventStep, IsReadyNode, IsAWorld, EndsAreAWorld}
 use Rattle.lpt_apart.proofs.Accepting.{accept}
 use Rattle.lpt_apart.proofs.Events.{open_step, send, plain, finish, tick, expire, claim, commit, apply, restart, ready}
 use Rattle.lpt_apart.proofs.Retiring.{retire}
 use Rattle.lpt_apart.proofs.Ties.{ends_of, IsTied, Came, Follows, Leads}
 
 -- two ends that are tied to a world follow one after a step
-step : (c : Config) (first : Contents) (s : State) (ways : List PutOut) (log : Log)
+step : (c : Config) (first : Contents) (usual : Type 0) (s : State) (ways : List PutOut)
+    (log : Log)
     (es : List Act) (x : Step)
     → IsConfig c
-    → IsTied c first s ways log es
+    → IsTied c first usual s ways log es
+    → (usual → IsEventStep x)
     → CanHappen c (ends_of s ways log) x
-    → Leads c first (after c (ends_of s ways log) x)
+    → Leads c first usual (after c (ends_of s ways log) x)
     (λ d name k.
     came_after c (ends_of s ways log) x d name k
     (journal.came c (history_after c first es) d name k))
-step c first s ways log es (Open d name m) good t can =
-    open_step c first s ways log es good t d name m can
-step c first s ways log es (Send d name k) good t can =
-    send c first s ways log es good t d name k can
-step c first s ways log es (Plain source flags service subtype body) good t can =
-    plain c first s ways log es good t source flags service subtype body can
-step c first s ways log es (Finish d name) good t can =
-    finish c first s ways log es good t d name can
-step c first s ways log es (Accept d b) good t can = accept c first s ways log es good t d b can
-step c first s ways log es (Tick side turn) good t can =
-    tick c first s ways log es good t side turn can
-step c first s ways log es (Expire side which) good t can =
-    expire c first s ways log es good t side which can
-step c first s ways log es (Claim w) good t can = claim c first s ways log es good t w can
-step c first s ways log es (Commit w) good t can = commit c first s ways log es good t w can
-step c first s ways log es Apply good t can = apply c first s ways log es good t can
-step c first s ways log es (Retire d name) good t can =
-    retire c first s ways log es d name good t can
-step c first s ways log es (Restart side) good t can = restart c first s ways log es good t side can
+step c first usual s ways log es (Open d name m) good t of_events can =
+    open_step c first usual s ways log es good t d name m can
+step c first usual s ways log es (Send d name k) good t of_events can =
+    send c first usual s ways log es good t d name k can
+step c first usual s ways log es (Plain source flags service subtype body) good t of_events can =
+    plain c first usual s ways log es good t source flags service subtype body can
+step c first usual s ways log es (Finish d name) good t of_events can =
+    finish c first usual s ways log es good t d name can
+step c first usual s ways log es (Accept d b) good t of_events can =
+    accept c first usual s ways log es good t d b can
+step c first usual s ways log es (Tick side turn) good t of_events can =
+    tick c first usual s ways log es good t side turn of_events can
+step c first usual s ways log es (Expire side which) good t of_events can =
+    expire c first usual s ways log es good t side which of_events can
+step c first usual s ways log es (Claim w) good t of_events can =
+    claim c first usual s ways log es good t w can
+step c first usual s ways log es (Commit w) good t of_events can =
+    commit c first usual s ways log es good t w can
+step c first usual s ways log es Apply good t of_events can =
+    apply c first usual s ways log es good t can
+step c first usual s ways log es (Retire d name) good t of_events can =
+    retire c first usual s ways log es d name good t can
+step c first usual s ways log es (Restart side) good t of_events can =
+    restart c first usual s ways log es good t side can
 
 no_hand : (l : Lane) → hand_of empty_link l ≡ None
 no_hand S1 = refl
@@ -58,9 +65,9 @@ no_hand G1 = refl
 no_hand G2 = refl
 
 -- two new ends follow a new world, to which nothing came
-pub leads_off : (c : Config) (first : Contents)
-    → Leads c first (no_ends c first) (λ d name k. false)
-leads_off c first = record {
+pub leads_off : (c : Config) (first : Contents) (usual : Type 0)
+    → Leads c first usual (no_ends c first) (λ d name k. false)
+leads_off c first usual = record {
   follows = record {
     state = no_state c first;
     events = [];
@@ -70,6 +77,7 @@ leads_off c first = record {
       hands = no_hand;
       held = tt;
       tells = refl;
+      alone = λ u. tt;
     };
     is = refl;
   };
@@ -77,38 +85,40 @@ leads_off c first = record {
 }
 
 -- a step leads on, and what came with it came to the world
-pub lead_on : (c : Config) (first : Contents)
+pub lead_on : (c : Config) (first : Contents) (usual : Type 0)
     → IsConfig c
     → (e : Ends) (x : Step) (parts : Came)
-    → Leads c first e parts
+    → Leads c first usual e parts
+    → (usual → IsEventStep x)
     → CanHappen c e x
-    → Leads c first (after c e x) (λ d name k. came_after c e x d name k (parts d name k))
-lead_on c first good e x parts l can =
-    let f : Follows c first e = l.follows in
+    → Leads c first usual (after c e x) (λ d name k. came_after c e x d name k (parts d name k))
+lead_on c first usual good e x parts l of_events can =
+    let f : Follows c first usual e = l.follows in
     let before : Came = journal.came c (history_after c first f.events) in
     let same : before ≡ parts = (λ i d name k. l.comes d name k i) in
-    subst (λ (p : Came). Leads c first (after c e x)
+    subst (λ (p : Came). Leads c first usual (after c e x)
     (λ d name k. came_after c e x d name k (p d name k))) same
-    (subst (λ (y : Ends). CanHappen c y x → Leads c first (after c y x)
+    (subst (λ (y : Ends). CanHappen c y x → Leads c first usual (after c y x)
     (λ d name k. came_after c y x d name k (before d name k))) f.is
-    (step c first f.state e.on_the_way e.log f.events x good f.tied) can)
+    (step c first usual f.state e.on_the_way e.log f.events x good f.tied of_events) can)
 
 -- two ends follow a world to which the same parts came, whatever steps they do
-pub lead : (c : Config) (first : Contents) (xs : List Step)
+pub lead : (c : Config) (first : Contents) (usual : Type 0) (xs : List Step)
     → IsConfig c
+    → (usual → AreEventSteps xs)
     → CanRun c first xs
-    → Leads c first (ends_reached c first xs) (came c first xs)
-lead c first [] good can = leads_off c first
-lead c first (x ∷ xs) good can =
-    lead_on c first good (ends_reached c first xs) x (came c first xs) (lead c first xs good can.0)
-    can.1
+    → Leads c first usual (ends_reached c first xs) (came c first xs)
+lead c first usual [] good of_events can = leads_off c first usual
+lead c first usual (x ∷ xs) good of_events can =
+    lead_on c first usual good (ends_reached c first xs) x (came c first xs)
+    (lead c first usual xs good (λ u. (of_events u).0) can.0) (λ u. (of_events u).1) can.1
 
 -- what follows a world is one
-pub is_a_world : (c : Config) (first : Contents) (e : Ends)
+pub is_a_world : (c : Config) (first : Contents) (usual : Type 0) (e : Ends)
     → IsConfig c
-    → Follows c first e
-    → IsAWorld c first e
-is_a_world c first e good f = record {
+    → Follows c first usual e
+    → IsAWorld c first usual e
+is_a_world c first usual e good f = record {
   events = f.events;
   world = f.state;
   legal = f.tied.legal;
@@ -120,9 +130,11 @@ is_a_world c first e good f = record {
   log = f.tied.tells;
   ready =
       subst (λ (y : Ends). IsReadyNode c y) f.is
-      (ready c first f.state e.on_the_way e.log f.events good f.tied);
+      (ready c first usual f.state e.on_the_way e.log f.events good f.tied);
+  alone = f.tied.alone;
 }
 
 pub ends_are_a_world : EndsAreAWorld
 ends_are_a_world c first xs good can =
-    is_a_world c first (ends_reached c first xs) good (lead c first xs good can).follows
+    is_a_world c first (AreEventSteps xs) (ends_reached c first xs) good
+    (lead c first (AreEventSteps xs) xs good (λ u. u) can).follows

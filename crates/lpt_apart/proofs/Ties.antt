@@ -26,6 +26,7 @@ use Rattle.lpt_journal.proofs.TicketSteps.{jobs_sound}
 use Rattle.lpt_apart.specs.Ends.{PutOut, Ends}
 use Rattle.lpt_apart.specs.Facts.{Log}
 use Rattle.lpt_apart.specs.Told.{log_told}
+use Rattle.lpt_apart.specs.Worlds.{AreOfEvents}
 use Rattle.lpt_apart.proofs.Links.{AllHeld}
 
 -- ---- what is tied
@@ -42,20 +43,22 @@ ends_of s ways log = record {
 }
 
 -- a world shows a legal journal, no lane has a packet, all that may be handed over is held, and the
--- journal tells this log
-pub record IsTied (c : Config) (first : Contents) (s : State) (ways : List PutOut) (log : Log)
+-- journal tells this log; it is of events alone if what was done is usual
+pub record IsTied (c : Config) (first : Contents) (usual : Type 0) (s : State)
+    (ways : List PutOut) (log : Log)
     (es : List Act) : Type 0 where
   pub legal : Legal c first es
   pub shown : Shows s (views c first (history_after c first es))
   pub hands : (l : Lane) → hand_of s.link l ≡ None
   pub held : AllHeld s.link.packets ways
   pub tells : log_told c (history_after c first es) ≡ log
+  pub alone : usual → AreOfEvents es
 
 -- two ends are tied to some world
-pub record Follows (c : Config) (first : Contents) (e : Ends) : Type 0 where
+pub record Follows (c : Config) (first : Contents) (usual : Type 0) (e : Ends) : Type 0 where
   pub state : State
   pub events : List Act
-  pub tied : IsTied c first state e.on_the_way e.log events
+  pub tied : IsTied c first usual state e.on_the_way e.log events
   pub is : ends_of state e.on_the_way e.log ≡ e
 
 -- which parts of which transactions came
@@ -63,8 +66,9 @@ abbrev pub Came : Type 0
 Came = Direction → Name → (k : ℕ) → Bool
 
 -- two ends follow a world to which these parts came
-pub record Leads (c : Config) (first : Contents) (e : Ends) (parts : Came) : Type 0 where
-  pub follows : Follows c first e
+pub record Leads (c : Config) (first : Contents) (usual : Type 0) (e : Ends) (parts : Came)
+    : Type 0 where
+  pub follows : Follows c first usual e
   pub comes : (d : Direction) (name : Name) (k : ℕ)
       → came c (history_after c first follows.events) d name k ≡ parts d name k
 

@@ -121,11 +121,11 @@ fate (Restarted side ∷ log) d name m due now live = fate log d name m due.0 no
 -- ---- of two ends
 
 -- two ends that follow a world withhold nothing that came to it
-pub withholds_nothing : (c : Config) (first : Contents) (e : Ends) (parts : Came)
+pub withholds_nothing : (c : Config) (first : Contents) (usual : Type 0) (e : Ends) (parts : Came)
     → IsConfig c
-    → Leads c first e parts
+    → Leads c first usual e parts
     → WithholdsNothing c e.log parts
-withholds_nothing c first e parts good l d name m now all live =
+withholds_nothing c first usual e parts good l d name m now all live =
     let t = l.follows.tied in
     let due : AllDue e.log =
     subst (λ (log : Log). AllDue log) t.tells (all_due c first good l.follows.events t.legal) in
@@ -139,5 +139,5 @@ withholds_nothing c first e parts good l d name m now all live =
 
 pub ends_withhold_nothing : EndsWithholdNothing
 ends_withhold_nothing c first xs good can =
-    withholds_nothing c first (ends_reached c first xs) (came c first xs) good
-    (lead c first xs good can)
+    withholds_nothing c first ⊥ (ends_reached c first xs) (came c first xs) good
+    (lead c first ⊥ xs good (λ u. absurd u) can)

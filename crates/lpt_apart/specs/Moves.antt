@@ -19,7 +19,7 @@ use Rattle.lpt_node.specs.Nodes.{NodeData}
 use Rattle.lpt_apart.specs.Ends.{Ends, no_ends, node_at, with_node, without}
 use Rattle.lpt_apart.specs.Facts.{Retired, is_same}
 use Rattle.lpt_apart.specs.Steps.{Step, Retire, IsOver, CanHappen, after}
-use Rattle.lpt_apart.specs.Worlds.{IsAWorld, IsPromised}
+use Rattle.lpt_apart.specs.Worlds.{IsAWorld, IsPromised, IsEventStep}
 
 -- ---- moves
 
@@ -104,12 +104,23 @@ abbrev pub KnowsLess : Marks → (Name → Bool) → Marks → Type 0
 KnowsLess less freed m =
     (name : Name) → maps.get less name ≡ (if freed name then None else maps.get m name)
 
+-- a move sets no clock back, sets no limits, and ends no reception before its time
+abbrev pub IsEventMove : Move → Type 0
+IsEventMove (Do x) = IsEventStep x
+IsEventMove (Free d name) = ⊤
+
+-- no move does
+abbrev pub AreEventMoves : List Move → Type 0
+AreEventMoves [] = ⊤
+AreEventMoves (x ∷ xs) = AreEventMoves xs × IsEventMove x
+
 -- two ends are a world's, but that their receivers have freed some names already
-pub record IsAWorldBut (c : Config) (first : Contents) (p : Pair) : Type 0 where
+pub record IsAWorldBut (c : Config) (first : Contents) (usual : Type 0) (p : Pair)
+    : Type 0 where
   pub whole : Ends
   pub on_ground : Marks
   pub on_craft : Marks
-  pub world : IsAWorld c first whole
+  pub world : IsAWorld c first usual whole
   pub less_on_ground : KnowsLess on_ground (p.freed Down) whole.on_ground.receiving.ledger
   pub less_on_craft : KnowsLess on_craft (p.freed Up) whole.on_craft.receiving.ledger
   pub is : with_ledgers on_ground on_craft whole ≡ p.ends
@@ -120,7 +131,7 @@ EndsApartAreAWorld =
     (c : Config) (first : Contents) (xs : List Move)
     → IsConfig c
     → CanMoveAll c first xs
-    → IsAWorldBut c first (came_to c first xs)
+    → IsAWorldBut c first (AreEventMoves xs) (came_to c first xs)
 
 -- whatever two ends did, they keep the promise
 abbrev pub EndsApartKeepThePromise : Type 0

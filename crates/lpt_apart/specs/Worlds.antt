@@ -1,11 +1,12 @@
 -- Two ends apart are a world, and keep its promise.
-use Rattle.std.specs.Prelude.{◌≡◌, List, Some, IsTrue}
+use Rattle.std.specs.Prelude.{◌≡◌, List, [], ◌∷◌, Some, IsTrue, ⊤}
 use Rattle.std.specs.List.{slice_get}
 use Rattle.lpt_memory.specs.Memories.{Contents}
 use Rattle.lpt_memory.specs.Readings.{Job, Source}
 use Rattle.lpt_events.specs.Configs.{IsConfig}
 use Rattle.lpt_events.specs.declared.config.Config.{Config}
-use Rattle.lpt_acts.specs.Acts.{Act}
+use Rattle.lpt_acts.specs.Acts.{Act, act_of, Back, Within}
+use Rattle.lpt_events.specs.declared.event.Event.{Event}
 use Rattle.lpt_events.specs.declared.worker.Worker.{Worker}
 use Rattle.lpt_jobs.specs.Jobs.{head_of, is_claimed, Ready}
 use Rattle.lpt_node.specs.Jobs.{FrontIsFor}
@@ -18,7 +19,7 @@ use Rattle.lpt_refinement.specs.Shows.{Shows}
 use Rattle.lpt_refinement.specs.Views.{views}
 use Rattle.lpt_apart.specs.Ends.{Ends}
 use Rattle.lpt_apart.specs.Facts.{AllDue, requests_executed, waiting}
-use Rattle.lpt_apart.specs.Steps.{Step, ends_reached, CanRun}
+use Rattle.lpt_apart.specs.Steps.{Step, Expire, Tick, ends_reached, CanRun}
 use Rattle.lpt_apart.specs.Told.{log_told}
 
 -- What the spacecraft's node asks for besides: a job that a worker has was claimed and not handed
@@ -30,8 +31,31 @@ pub record IsReadyNode (c : Config) (e : Ends) : Type 0 where
       → IsTrue (is_claimed e.on_craft.jobs t.job)
   pub executes : FrontIsFor (head_of e.on_craft.jobs.jobs) c.apid e.memories
 
--- there is a legal journal, and a world that shows it has these two nodes, jobs, memories and log
-pub record IsAWorld (c : Config) (first : Contents) (e : Ends) : Type 0 where
+-- an act is one that an event does
+pub record IsOfAnEvent (a : Act) : Type 0 where
+  pub event : Event
+  pub is : act_of event ≡ a
+
+-- all are
+abbrev pub AreOfEvents : List Act → Type 0
+AreOfEvents [] = ⊤
+AreOfEvents (a ∷ acts) = AreOfEvents acts × IsOfAnEvent a
+
+-- a step sets no clock back, sets no limits, and ends no reception before its time
+abbrev pub IsEventStep : Step → Type 0
+IsEventStep (Tick side (Back n)) = ⊥
+IsEventStep (Tick side (Within l)) = ⊥
+IsEventStep (Expire side (Some name)) = ⊥
+IsEventStep x = ⊤
+
+-- no step does
+abbrev pub AreEventSteps : List Step → Type 0
+AreEventSteps [] = ⊤
+AreEventSteps (x ∷ xs) = AreEventSteps xs × IsEventStep x
+
+-- there is a legal journal, and a world that shows it has these two nodes, jobs, memories and log;
+-- it is one of events alone if what was done is usual
+pub record IsAWorld (c : Config) (first : Contents) (usual : Type 0) (e : Ends) : Type 0 where
   pub events : List Act
   pub world : State
   pub legal : Legal c first events
@@ -42,6 +66,7 @@ pub record IsAWorld (c : Config) (first : Contents) (e : Ends) : Type 0 where
   pub memories : world.memories ≡ e.memories
   pub log : log_told c (history_after c first events) ≡ e.log
   pub ready : IsReadyNode c e
+  pub alone : usual → AreOfEvents events
 
 -- whatever steps two ends did
 abbrev pub EndsAreAWorld : Type 0
@@ -49,7 +74,7 @@ EndsAreAWorld =
     (c : Config) (first : Contents) (xs : List Step)
     → IsConfig c
     → CanRun c first xs
-    → IsAWorld c first (ends_reached c first xs)
+    → IsAWorld c first (AreEventSteps xs) (ends_reached c first xs)
 
 -- Each fact of the log was due: a message that was released under a name was the awaited one, and
 -- a plain request one that ground asked. The memories are their first content, changed by the

@@ -1,14 +1,21 @@
 //! Runs of two ends apart, and what comes of them: functions with empty bodies.
 
-ghost use Rattle.std.specs.Prelude.{◌≡◌, ◌++◌, reverse};
+ghost use Rattle.std.specs.Prelude.{◌≡◌, ◌++◌, reverse, Ok, Err};
 ghost use Rattle.lpt_events.specs.Configs.{IsConfig};
+ghost use Rattle.lpt_events.specs.declared.side.Side.TheVariants.{Ground, Craft};
+ghost use Rattle.lpt_ledger.specs.Runs.{names_in, runs_of_names};
 ghost use Rattle.lpt_packet.specs.declared.direction.Direction.TheVariants.{Up};
+ghost use Rattle.lpt_part.specs.declared.mode.Mode.TheVariants.{Strict};
+ghost use Rattle.lpt_state.specs.declared.fault.StateFault.TheVariants as fault;
+ghost use Rattle.lpt_state.specs.Spellings.{spelling};
+ghost use Rattle.lpt_state.specs.Verdicts.{verdict};
 ghost use Rattle.lpt_apart.specs.Moves.{came_to, CanMoveAll};
 ghost use Rattle.lpt_apart.specs.Whole.{came_in, CameWhole};
 ghost use Rattle.lpt_journal_examples.specs.Passes.{own, m9, usual, usual_memories, loaded_memories};
 ghost use Rattle.lpt_apart_examples.specs.Late.{before_late, late_acts, late_moves, start, FreesTooEarly};
 ghost use Rattle.lpt_apart_examples.specs.Limits.{clock_moves, narrow_log, narrow_moves};
 ghost use Rattle.lpt_apart_examples.specs.Runs.{worked_moves, worked_log};
+ghost use Rattle.lpt_apart_examples.specs.States.{config, mixed_state, mixed_octets, names_sent};
 ghost use Rattle.lpt_freeing.specs.Freeing.{with_acts, CanActAll};
 
 /// Ground asks for a load, which is executed; its packet comes again, and is released again. A
@@ -49,4 +56,23 @@ pub fn limits_can_be()
     ensures can { CanMoveAll usual usual_memories (reverse narrow_moves ++ reverse clock_moves) }
     ensures log { (came_to usual usual_memories
         (reverse narrow_moves ++ reverse clock_moves)).ends.log ≡ reverse narrow_log }
+{}
+
+/// A worked state has these octets, which were made outside, and they are read as it, at an end of
+/// its side and its configuration, whatever the limits and the first clock.
+pub fn worked_state()
+    ensures spelled { spelling Ground config mixed_state ≡ mixed_octets }
+    ensures read { verdict Ground config mixed_octets ≡ Ok mixed_state }
+    ensures clock { verdict Ground (record config { clock = 9 }) mixed_octets ≡ Ok mixed_state }
+    ensures limits { verdict Ground (record config { timeout = 9; receptions = 2; outgoing = 1 })
+        mixed_octets ≡ Ok mixed_state }
+    ensures side { verdict Craft config mixed_octets ≡ Err fault.Side }
+    ensures config { verdict Ground (record config { mode = Strict }) mixed_octets
+        ≡ Err fault.Config }
+{}
+
+/// Worked names have these runs, and the runs those names.
+pub fn worked_names()
+    ensures runs { runs_of_names names_sent ≡ mixed_state.sent }
+    ensures names { names_in mixed_state.sent ≡ names_sent }
 {}

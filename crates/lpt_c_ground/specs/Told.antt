@@ -3,7 +3,7 @@ use Rattle.std.specs.Prelude.{ℕ, ◌==◌, List, length, slice_get, Bool, if�
 use Rattle.std.specs.List.{count_by}
 use Rattle.std.specs.Option.{option_map}
 use Rattle.lpt_failures.specs.declared.notice.FailureNotice.{FailureNotice}
-use Rattle.lpt_failures.specs.declared.notice.FailureNotice.TheVariants.{Code, Unread}
+use Rattle.lpt_failures.specs.declared.notice.FailureNotice.TheVariants.{Code, Foreign, Unread}
 use Rattle.lpt_ground.specs.declared.asked.Asked.{Asked}
 use Rattle.lpt_ground.specs.declared.asked.Fate.{Fate}
 use Rattle.lpt_ground.specs.declared.asked.Fate.TheVariants.{Waiting, Done, Failed}
@@ -17,6 +17,7 @@ use Rattle.lpt_c_ground.specs.declared.telling.LptProgress.{LptProgress}
 -- why a request failed, as a number: its code, or 65536 if none is read
 abbrev pub notice_word : FailureNotice → ℕ
 notice_word (Code code) = code
+notice_word (Foreign code) = code
 notice_word Unread = 65536
 
 -- a fate as C is told it

@@ -225,7 +225,7 @@ fn notice_word_of(notice: FailureNotice) -> u32
     ensures { result ≡ notice_word notice }
 {
     match notice {
-        FailureNotice::Code(code) => u32::from(code),
+        FailureNotice::Code(code) | FailureNotice::Foreign(code) => u32::from(code),
         FailureNotice::Unread => UNREAD,
     }
 }

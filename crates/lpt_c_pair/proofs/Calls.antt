@@ -17,7 +17,7 @@ use Rattle.lpt_c_end.specs.declared.kept.Kept.{Kept}
 use Rattle.lpt_c_end.specs.declared.kept.Kept.TheVariants.{Nowhere, Here, Elsewhere}
 use Rattle.lpt_c_end.proofs.ReadyLemmas.{front_ready}
 use Rattle.lpt_c_pair.specs.Outboxes.{AllOnTheWay, NoneWaits}
-use Rattle.lpt_c_pair.specs.Pairs.{AreEndsOf, IsEndOf, CallPlace, InEnd, WithProgram, kept_in, Call, Open, Part, Plain, Finish, LetGo, Packet, Expire, GiveUp, Tick, Rebase, Read, Execute, ExecuteGiven, Retire, RetireFree, Restart, Resume, ResumeSized, freeing, moves, IsMoveOfGround, IsMoveOfCraft, CallsAreMoves}
+use Rattle.lpt_c_pair.specs.Pairs.{AreEndsOf, IsEndOf, CallPlace, InEnd, WithProgram, kept_in, Call, Open, Part, Plain, Finish, LetGo, Packet, Expire, GiveUp, Tick, Rebase, Read, Execute, ExecuteGiven, Retire, RetireFree, Restart, Resume, ResumeSized, Fails, freeing, moves, IsMoveOfGround, IsMoveOfCraft, CallsAreMoves}
 use Rattle.lpt_c_pair.proofs.Clockless.{refuses_open, refuses_send, sends, refuses_plain, asks, takes, refuses_expire, expires, gives_up, reads, executes, executes_over}
 use Rattle.lpt_c_pair.proofs.GivenLemmas.{executed_sizes, not_short}
 use Rattle.lpt_c_pair.proofs.Resuming.{resumed_node}
@@ -300,6 +300,11 @@ module _ (c : Config) (p : Pair) (g k : End) (are : AreEndsOf c p g k) where
     ground_becomes c p p g new k are done.fixed
         (done.node ∙ free_stays g.side g.node.at (direction_by direction) name vow
         ∙ are.ground.node) refl refl refl
+        (quiet_ground p.ends new.outbox.items refl done.outbox).0 are.downwards,
+  )
+  on_ground Fails new done vow = (
+    tt,
+    ground_becomes c p p g new k are done.fixed (done.node ∙ are.ground.node) refl refl refl
         (quiet_ground p.ends new.outbox.items refl done.outbox).0 are.downwards,
   )
   on_ground Restart new done vow = (
@@ -641,6 +646,11 @@ module _ (c : Config) (p : Pair) (g k : End) (are : AreEndsOf c p g k) where
         (done.node ∙ free_stays k.side k.node.at (direction_by direction) name vow
         ∙ are.craft.node) refl refl refl are.upwards
         (quiet_craft p.ends new.outbox.items refl done.outbox).1,
+  )
+  on_craft Fails new done vow = (
+    tt,
+    craft_fixed c p p g k new are done.fixed (done.node ∙ are.craft.node) refl refl refl
+        are.upwards (quiet_craft p.ends new.outbox.items refl done.outbox).1,
   )
   on_craft Restart new done vow = (
     (tt, tt),

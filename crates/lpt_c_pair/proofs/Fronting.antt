@@ -12,7 +12,7 @@ use Rattle.lpt_c_end.specs.Words.{direction_from as direction_by}
 use Rattle.lpt_c_end.specs.declared.end.End.{End}
 use Rattle.lpt_c_end.specs.declared.kept.Kept.{Kept}
 use Rattle.lpt_c_end.specs.declared.kept.Kept.TheVariants.{Nowhere, Here, Elsewhere}
-use Rattle.lpt_c_pair.specs.Pairs.{Call, Open, Part, Plain, Finish, LetGo, Packet, Expire, GiveUp, Tick, Rebase, Read, Execute, ExecuteGiven, Retire, RetireFree, Restart, Resume, ResumeSized, IsDone}
+use Rattle.lpt_c_pair.specs.Pairs.{Call, Open, Part, Plain, Finish, LetGo, Packet, Expire, GiveUp, Tick, Rebase, Read, Execute, ExecuteGiven, Retire, RetireFree, Restart, Resume, ResumeSized, Fails, IsDone}
 use Rattle.lpt_c_pair.specs.Programs.{ToldWrite, IsTold}
 use Rattle.lpt_apart.proofs.Handed.{put_in_place, waits}
 use Rattle.lpt_c_pair.proofs.Lemmas.{no_fault}
@@ -170,6 +170,8 @@ front_stays e new (Retire direction name) r done on front =
 front_stays e new (RetireFree direction name) r done on front =
     leaves r e.node.at (name_retired e.side e.node.at (direction_by direction) name) new.node.at
     done.node (retired_leaves e.side e.node.at (direction_by direction) name) front
+front_stays e new Fails r done on front =
+    leaves r e.node.at e.node.at new.node.at done.node refl front
 front_stays e new Restart r done on front = absurd on
 front_stays e new (Resume config state ms content) r done on front = absurd on
 front_stays e new (ResumeSized config state sizes) r done on front = absurd on

@@ -17,7 +17,7 @@ use Rattle.lpt_c_end.specs.declared.words.LptApplied.{LptApplied}
 use Rattle.lpt_c_end.specs.declared.words.LptOutcome.{LptOutcome}
 use Rattle.lpt_c_end.specs.Words.{applied_words, words}
 use Rattle.lpt_c_pair.specs.Handed.{AllLeave, ExecutionsAreTold, GivenExecutionsAreTold, IsExecutedSo, IsHanded, LeavesReleased, MessagesAreHanded, MessagesStay}
-use Rattle.lpt_c_pair.specs.Pairs.{AreEndsOf, Call, Open, Part, Plain, Finish, LetGo, Packet, Expire, GiveUp, Tick, Rebase, Read, Execute, ExecuteGiven, Retire, RetireFree, Restart, Resume, ResumeSized, InEnd, IsDone, IsEndOf, CallPlace, WithProgram, end_of, kept_in}
+use Rattle.lpt_c_pair.specs.Pairs.{AreEndsOf, Call, Open, Part, Plain, Finish, LetGo, Packet, Expire, GiveUp, Tick, Rebase, Read, Execute, ExecuteGiven, Retire, RetireFree, Restart, Resume, ResumeSized, Fails, InEnd, IsDone, IsEndOf, CallPlace, WithProgram, end_of, kept_in}
 use Rattle.lpt_c_pair.specs.Runs.{CallTurn, Standing, CanTurnBy, CanStand, KeepsThePromise, stood, turned_by}
 use Rattle.lpt_c_pair.proofs.Clockless.{executes, executes_over, takes}
 use Rattle.lpt_c_pair.proofs.GivenLemmas.{not_short}
@@ -161,6 +161,7 @@ released_stays Execute e new done may = done.1.released
 released_stays (ExecuteGiven octets) e new done may = done.1.released
 released_stays (Retire direction name) e new done may = done.released
 released_stays (RetireFree direction name) e new done may = done.released
+released_stays Fails e new done may = done.released
 released_stays Restart e new done may = done.released
 released_stays (Resume config state ms content) e new done may = absurd may
 released_stays (ResumeSized config state sizes) e new done may = absurd may

@@ -10,7 +10,7 @@ use Rattle.lpt_c_end.specs.declared.end.End.{End}
 use Rattle.lpt_c_end.specs.declared.memories.LptMemory.{LptMemory}
 use Rattle.lpt_c_end.specs.declared.sizing.LptSize.{LptSize}
 use Rattle.lpt_c_pair.specs.Keepers.{KeeperAct, Does, Gives, Keeper, Puts, Settles, TakesBack, Writes, CanKeep, CanKeepAll, ProgramsThatDropServe, deeds_of, giving, keeper_after, kept_all, new_keeper, program_of, stood_by}
-use Rattle.lpt_c_pair.specs.Pairs.{Call, Open, Part, Plain, Finish, LetGo, Packet, Expire, GiveUp, Tick, Rebase, Read, Execute, ExecuteGiven, Retire, RetireFree, Restart, Resume, ResumeSized, moves}
+use Rattle.lpt_c_pair.specs.Pairs.{Call, Open, Part, Plain, Finish, LetGo, Packet, Expire, GiveUp, Tick, Rebase, Read, Execute, ExecuteGiven, Retire, RetireFree, Restart, Resume, ResumeSized, Fails, moves}
 use Rattle.lpt_c_pair.specs.Programs as program
 use Rattle.lpt_c_pair.specs.Programs.{Program, ToldWrite, program_after, put_told}
 use Rattle.lpt_c_pair.specs.Services.{Calls, ServiceDeed, Drops, DropsRead, Refuses, turns, turns_of}
@@ -46,6 +46,7 @@ same_ghost c s side (RetireFree direction name) = refl
 same_ghost c s side Restart = refl
 same_ghost c s side (Resume config state ms content) = refl
 same_ghost c s side (ResumeSized config state sizes) = refl
+same_ghost c s side Fails = refl
 
 module _ (c : Config) (start : Service) where
   -- the memories of the two ends apart

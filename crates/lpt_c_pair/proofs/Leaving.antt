@@ -10,7 +10,7 @@ use Rattle.lpt_c_end.specs.Words.{direction_from as direction_by}
 use Rattle.lpt_c_end.specs.declared.end.End.{End}
 use Rattle.lpt_c_end.specs.declared.kept.Kept.{Kept}
 use Rattle.lpt_c_end.specs.declared.kept.Kept.TheVariants.{Nowhere, Elsewhere}
-use Rattle.lpt_c_pair.specs.Pairs.{Call, Open, Part, Plain, Finish, LetGo, Packet, Expire, GiveUp, Tick, Rebase, Read, Execute, ExecuteGiven, Retire, RetireFree, Restart, Resume, ResumeSized, IsDone, Promises, freeing, moves}
+use Rattle.lpt_c_pair.specs.Pairs.{Call, Open, Part, Plain, Finish, LetGo, Packet, Expire, GiveUp, Tick, Rebase, Read, Execute, ExecuteGiven, Retire, RetireFree, Restart, Resume, ResumeSized, Fails, IsDone, Promises, freeing, moves}
 use Rattle.lpt_c_pair.specs.Programs.{Program, MayCall}
 use Rattle.lpt_events.specs.declared.config.Config.{Config}
 use Rattle.lpt_events.specs.declared.side.Side.{Side}
@@ -60,6 +60,7 @@ module _ (c : Config) (p : Pair) where
   ground_leaves g new (Retire direction name) none done =
       freeing_leaves Ground (direction_by direction) name
   ground_leaves g new (RetireFree direction name) none done = refl
+  ground_leaves g new Fails none done = refl
   ground_leaves g new Restart none done = refl
   ground_leaves g new (Resume config state ms content) none done = refl
   ground_leaves g new (ResumeSized config state sizes) none done = refl
@@ -109,6 +110,8 @@ module _ (c : Config) (p : Pair) where
         place = done.fixed.memories ∙ at;
       }
   craft_leaves g k new sizes q (RetireFree direction name) at done vow may =
+      record { memories = refl; place = done.fixed.memories ∙ at }
+  craft_leaves g k new sizes q Fails at done vow may =
       record { memories = refl; place = done.fixed.memories ∙ at }
   craft_leaves g k new sizes q Restart at done vow may =
       record { memories = refl; place = done.fixed.memories ∙ at }

@@ -13,7 +13,7 @@ use Rattle.lpt_c_end.specs.declared.kept.Kept.{Kept}
 use Rattle.lpt_c_end.specs.declared.kept.Kept.TheVariants.{Nowhere, Elsewhere}
 use Rattle.lpt_c_end.specs.declared.memories.LptMemory.{LptMemory}
 use Rattle.lpt_c_end.specs.declared.sizing.LptSize.{LptSize}
-use Rattle.lpt_c_pair.specs.Pairs.{WithProgram, Call, Open, Part, Plain, Finish, LetGo, Packet, Expire, GiveUp, Tick, Rebase, Read, Execute, ExecuteGiven, Retire, RetireFree, Restart, Resume, ResumeSized, IsDone}
+use Rattle.lpt_c_pair.specs.Pairs.{WithProgram, Call, Open, Part, Plain, Finish, LetGo, Packet, Expire, GiveUp, Tick, Rebase, Read, Execute, ExecuteGiven, Retire, RetireFree, Restart, Resume, ResumeSized, Fails, IsDone}
 use Rattle.lpt_c_pair.specs.Programs.{ToldWrite, IsTold, AreTold, put_told, Program, Act, Calls, Writes, Gives, Puts, Settles, program_after, came_by, CanAct, CanActAll, MayCall, ProgramsKeepTheirMemories, program_started}
 use Rattle.lpt_c_pair.proofs.GivenLemmas.{not_short}
 use Rattle.lpt_c_pair.proofs.Lemmas.{IsRead, no_fault, not_unsent, was_read}
@@ -109,6 +109,8 @@ module _ (c : Config) where
       still_told 0 p.ahead p.ends.on_craft new (Retire direction name) done tt told
   told_after p sizes new (RetireFree direction name) at done may told =
       still_told 0 p.ahead p.ends.on_craft new (RetireFree direction name) done tt told
+  told_after p sizes new Fails at done may told =
+      still_told 0 p.ahead p.ends.on_craft new Fails done tt told
 
   pub vow_of : (p : Program) (octets : List ℕ) (owed : List ToldWrite) (new : End)
       → IsOwn p

@@ -18,7 +18,7 @@ use Rattle.lpt_c_end.specs.Words.{direction_from as direction_by}
 use Rattle.lpt_c_end.specs.declared.end.End.{End}
 use Rattle.lpt_c_end.specs.declared.kept.Kept.{Kept}
 use Rattle.lpt_c_end.specs.declared.memories.LptMemory.{LptMemory}
-use Rattle.lpt_c_pair.specs.Pairs.{AreEndsOf, Call, Open, Part, Plain, Finish, InEnd, LetGo, Packet, Expire, GiveUp, Tick, Rebase, Read, Execute, ExecuteGiven, Retire, RetireFree, Restart, Resume, ResumeSized, IsDone, freeing, moves}
+use Rattle.lpt_c_pair.specs.Pairs.{AreEndsOf, Call, Open, Part, Plain, Finish, InEnd, LetGo, Packet, Expire, GiveUp, Tick, Rebase, Read, Execute, ExecuteGiven, Retire, RetireFree, Restart, Resume, ResumeSized, Fails, IsDone, freeing, moves}
 use Rattle.lpt_c_pair.specs.Services.{Calls, ServiceDeed, Drops, DropsRead, Refuses, EndsOfCThatDropServe, Serving, CanServe, CanServeAll, no_serving, serving_after, served_all, standing, turns, turns_by, turns_of}
 use Rattle.lpt_c_pair.specs.Runs.{CanTurnBy}
 use Rattle.lpt_c_pair.specs.Withheld.{EndsOfCThatDropWithholdNoRequest}
@@ -85,6 +85,7 @@ module _ (c : Config) (s : Service) (side : Side) (g k : End) where
   by_moves (Retire direction name) read w =
       record { can = (tt, (no_work side (direction_by direction) name, w.0.1)); ends = w.1 }
   by_moves (RetireFree direction name) read w = record { can = tt; ends = w.1 }
+  by_moves Fails read w = record { can = tt; ends = w.1 }
   by_moves Restart read w = record { can = (tt, (tt, w.0.1)); ends = w.1 }
   by_moves (Resume config state ms content) read w =
       record { can = ((tt, (tt, w.0.0.1)), (tt, w.0.1)); ends = w.1 }

@@ -32,7 +32,7 @@ pub record History : Type 0 where
   pub but_craft : List CallTurn
   pub but_both : List CallTurn
 
--- A call answered 0, and a reset deletes it if its end wasn't kept since; or no reset does;
+-- A call was made, and a reset deletes it if its end wasn't kept since; or no reset does;
 -- the program of a side keeps its end's state, and the spacecraft's with it the memories; or a
 -- machine is reset, and its end is restored from a state and memories.
 pub data CallDeed : Type 0 where

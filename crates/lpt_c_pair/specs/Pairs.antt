@@ -8,7 +8,7 @@ use Rattle.lpt_apart.specs.Steps as step
 use Rattle.lpt_apart.specs.Steps.{MayCome}
 use Rattle.lpt_apart_kept.specs.Deeds.{with_restart}
 use Rattle.lpt_c_end.specs.Accesses.{IsExecutedGiven, given_refusal}
-use Rattle.lpt_c_end.specs.Changes.{IsOpened, IsPartMade, IsPlainMade, IsFinished, IsLetGo, IsDelivered, IsExpired, IsGivenUp, IsTicked, IsRebased, IsRead, IsExecuted, IsRetired, IsRestarted}
+use Rattle.lpt_c_end.specs.Changes.{IsOpened, IsPartMade, IsPlainMade, IsFinished, IsLetGo, IsDelivered, IsExpired, IsGivenUp, IsTicked, IsRebased, IsRead, IsExecuted, IsRetired, IsRestarted, IsSame}
 use Rattle.lpt_c_end.specs.Contents.{memories_of}
 use Rattle.lpt_c_end.specs.Keeping.{IsResumed, ReadsAsRestarted}
 use Rattle.lpt_c_end.specs.Refusals.{open_refusal, part_refusal, plain_refusal, finish_refusal, sent_refusal, expire_refusal, give_up_refusal, tick_refusal, rebase_refusal, read_refusal, execute_refusal}
@@ -74,7 +74,8 @@ pub record AreEndsOf (c : Config) (p : Pair) (on_ground on_craft : End) : Type 0
 
 -- A call of an end, as `include/lpt_end.h` has them; a name is freed in a direction, by its number,
 -- also one that is free. An end is restored from its state, in place of the one that its program
--- had.
+-- had. A call fails if it answers another status than 0, as the last `lpt_end_read` of a loop does;
+-- `lpt_end_name` counts as one, since it changes nothing either.
 --
 -- Assumed: A C program never calls `lpt_end_drop`, `lpt_end_drop_read` or `lpt_end_refuse`.
 pub data Call : Type 0 where
@@ -96,8 +97,10 @@ pub data Call : Type 0 where
   Restart : Call
   Resume : Config → (state : List ℕ) → List LptMemory → (content : List ℕ) → Call
   ResumeSized : Config → (state : List ℕ) → List LptSize → Call
+  Fails : Call
 
--- a call has answered 0: its end didn't refuse it, and became this
+-- a call has answered 0: its end didn't refuse it, and became this; or it failed, and its end is
+-- as it was
 abbrev pub IsDone : Call → End → End → Type 0
 IsDone (Open name m) e new = (open_refusal name m e ≡ None) × IsOpened name m e new
 IsDone (Part name k) e new = (part_refusal name k e ≡ None) × IsPartMade name k e new
@@ -120,6 +123,7 @@ IsDone (RetireFree direction name) e new = IsRetired direction name e new
 IsDone Restart e new = IsRestarted e new
 IsDone (Resume config state ms content) e new = IsResumed e.side config state ms content new
 IsDone (ResumeSized config state sizes) e new = IsResumedSized config state sizes new
+IsDone Fails e new = IsSame e new
 
 -- ---- moves
 
@@ -151,6 +155,7 @@ moves side (RetireFree direction name) = []
 moves side Restart = Do (step.Restart side) ∷ []
 moves side (Resume config state ms content) = with_restart config side []
 moves side (ResumeSized config state sizes) = with_restart config side []
+moves side Fails = []
 
 -- ---- what the program promises
 
@@ -208,6 +213,7 @@ Promises c p g k side (Resume config state ms content) =
     IsKept c (end_of side g k) config state (memories_of (end_of side g k).side ms content)
 Promises c p g k side (ResumeSized config state sizes) =
     IsKept c (end_of side g k) config state (kept_as sizes)
+Promises c p g k side Fails = ⊤
 
 -- ---- the law
 

@@ -84,6 +84,10 @@ program_after c p Settles = record p { memories = put_told p.owed p.memories; ow
 
 -- Requests are executed by an act of their own. If the spacecraft's end is restarted or made
 -- again, nothing was written ahead; what is owed is known still.
+--
+-- Assumed: A C program that has the memories itself makes each write that it is told, whole, before
+-- it executes another request, gives each execution the octets that stand there, and restarts its
+-- end only when nothing is written ahead.
 abbrev pub MayCall : Program → Side → Call → Type 0
 MayCall p side (ExecuteGiven octets) = ⊥
 MayCall p Craft Restart = p.ahead ≡ []
@@ -94,6 +98,10 @@ MayCall p side call = ⊤
 -- Nothing is owed of the requests before. What is owed from now on is what the calls tell of the
 -- oldest request besides what was written ahead. The octets are those that the program's memories
 -- have where it reads.
+--
+-- Assumed: A C program that has the memories itself makes each write that it is told, whole, before
+-- it executes another request, gives each execution the octets that stand there, and restarts its
+-- end only when nothing is written ahead.
 pub record IsGiven (p : Program) (octets : List ℕ) (owed : List ToldWrite) : Type 0 where
   pub settled : p.owed ≡ []
   pub told : AreTold (length p.ahead) owed p.ends.on_craft

@@ -14,7 +14,7 @@ use Rattle.lpt_events.specs.declared.side.Side.{Side}
 use Rattle.lpt_events.specs.declared.side.Side.TheVariants.{Ground, Craft}
 use Rattle.lpt_memory.specs.Memories.{Contents}
 
--- a call of the end of a side that answered 0, and what that end became
+-- a call of the end of a side, and what that end became
 pub record CallTurn : Type 0 where
   pub side : Side
   pub call : Call

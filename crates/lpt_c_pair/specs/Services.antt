@@ -31,7 +31,7 @@ pub record Serving : Type 0 where
   pub on_ground : End
   pub on_craft : End
 
--- a call that answered 0; or `lpt_end_drop` did, `lpt_end_drop_read`, or `lpt_end_refuse`, and the
+-- a call; or `lpt_end_drop`, `lpt_end_drop_read` or `lpt_end_refuse` answered 0, and the
 -- spacecraft's end became this
 pub data ServiceDeed : Type 0 where
   Calls : CallTurn → ServiceDeed

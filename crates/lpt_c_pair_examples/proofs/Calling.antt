@@ -20,7 +20,7 @@ use Rattle.lpt_c_end.specs.Changes.{IsNew}
 use Rattle.lpt_c_end.specs.Contents.{memories_told}
 use Rattle.lpt_c_end.specs.declared.end.End.{End}
 use Rattle.lpt_c_pair.specs.Histories.{AreCareful, just_begun}
-use Rattle.lpt_c_pair.specs.Pairs.{Execute, Packet, Plain, Read}
+use Rattle.lpt_c_pair.specs.Pairs.{Execute, Fails, IsDone, Packet, Plain, Read}
 use Rattle.lpt_c_pair.specs.Runs.{CanStand, CanTurnBy, Standing, standing_begun, stood}
 use Rattle.lpt_c_pair.proofs.Histories.{careful_programs_may_be_reset}
 use Rattle.lpt_c_pair_examples.specs.Called.{CallsCanBe, calls_made, called_and_reset, content, memory, usual_own}
@@ -54,29 +54,40 @@ module _ (g k : End) (new_g : IsNew Ground usual [] [] g)
 
   -- ---- the run
 
+  fails : (e : End) → IsDone Fails e e
+  fails e = record {
+    node = refl;
+    released = refl;
+    outbox = refl;
+    fixed = record { side = refl; config = refl; memories = refl };
+  }
+
   takes_it : CanStand usual start (calls_made asked_for taken read done again)
   takes_it = (
     (
       (
         (
-          (tt, (asks g new_g, (omega arith, omega arith, omega arith, omega arith, octets))),
           (
-            takes first_kept refl (λ code. refl) k new_k (one_waits load_packet [] none_read),
-            inl (record {
-              place = 0;
-              packet = record { direction = Up; part_of = None; octets = asked.1 };
-              there = refl;
-              goes = refl;
-              octets = packet_is;
-            }),
+            (tt, (asks g new_g, (omega arith, omega arith, omega arith, omega arith, octets))),
+            (
+              takes first_kept refl (λ code. refl) k new_k (one_waits load_packet [] none_read),
+              inl (record {
+                place = 0;
+                packet = record { direction = Up; part_of = None; octets = asked.1 };
+                there = refl;
+                goes = refl;
+                octets = packet_is;
+              }),
+            ),
+          ),
+          (
+            reads first_kept refl (λ code. refl) k new_k 0 (Waiting load_packet ∷ [])
+                (one_waits load_packet [] none_read) 0 (Committed source ∷ [])
+                (one_read source [] refl refl none_read) refl refl,
+            tt,
           ),
         ),
-        (
-          reads first_kept refl (λ code. refl) k new_k 0 (Waiting load_packet ∷ [])
-              (one_waits load_packet [] none_read) 0 (Committed source ∷ [])
-              (one_read source [] refl refl none_read) refl refl,
-          tt,
-        ),
+        (fails read, tt),
       ),
       (executes_it k new_k 0 (one_read source [] refl refl none_read), tt),
     ),
@@ -86,6 +97,7 @@ module _ (g k : End) (new_g : IsNew Ground usual [] [] g)
   -- the packet may come once more
   comes_again : CanTurnBy usual (stood usual start
       (record { side = Craft; call = Execute; new = done }
+      ∷ record { side = Craft; call = Fails; new = read }
       ∷ record { side = Craft; call = Read; new = read }
       ∷ record { side = Craft; call = Packet load_packet; new = taken }
       ∷ record { side = Ground; call = Plain 1 0 6 2 load; new = asked_for } ∷ []))
@@ -113,8 +125,11 @@ module _ (g k : End) (new_g : IsNew Ground usual [] [] g)
           (
             (
               (
-                (tt, (takes_it.0.0.0.0.1, takes_it.0.0.0.0.1)),
-                tt,
+                (
+                  (tt, (takes_it.0.0.0.0.0.1, takes_it.0.0.0.0.0.1)),
+                  tt,
+                ),
+                (takes_it.0.0.0.0.1, takes_it.0.0.0.0.1),
               ),
               (takes_it.0.0.0.1, takes_it.0.0.0.1),
             ),

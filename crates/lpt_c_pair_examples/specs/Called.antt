@@ -9,7 +9,7 @@ use Rattle.lpt_c_end.specs.declared.end.End.{End}
 use Rattle.lpt_c_end.specs.declared.kept.Kept.TheVariants.{Here}
 use Rattle.lpt_c_end.specs.declared.memories.LptMemory.{LptMemory}
 use Rattle.lpt_c_pair.specs.Histories.{CallDeed, Keeps, Makes, Resets, AreCareful, CanGoOnAll, gone_all, just_begun}
-use Rattle.lpt_c_pair.specs.Pairs.{Execute, Packet, Plain, Read, Resume}
+use Rattle.lpt_c_pair.specs.Pairs.{Execute, Fails, Packet, Plain, Read, Resume}
 use Rattle.lpt_c_pair.specs.Runs.{Standing, CallTurn, CanStand, standing_begun, stood}
 use Rattle.lpt_events.specs.declared.side.Side.TheVariants.{Ground, Craft}
 use Rattle.lpt_journal_examples.specs.Passes.{load, load_packet, loaded_memories, usual}
@@ -29,9 +29,9 @@ content = replicate 256 0
 abbrev pub loaded_content : List ℕ
 loaded_content = replicate 16 0 ++ 171 ∷ 205 ∷ 239 ∷ 1 ∷ replicate 236 0
 
--- Ground asks for a load, and its packet is handed to the spacecraft. That reads the request,
--- executes it, and is restored from its state. The newest stands first; these are the ends that
--- came of it.
+-- Ground asks for a load, and its packet is handed to the spacecraft. That reads requests until a
+-- call fails, as there is one alone, executes it, and is restored from its state. The newest stands
+-- first; these are the ends that came of it.
 abbrev pub calls_made : (asked taken read done again : End) → List CallTurn
 calls_made asked taken read done again =
     record {
@@ -40,6 +40,7 @@ calls_made asked taken read done again =
       new = again;
     }
     ∷ record { side = Craft; call = Execute; new = done }
+    ∷ record { side = Craft; call = Fails; new = read }
     ∷ record { side = Craft; call = Read; new = read }
     ∷ record { side = Craft; call = Packet load_packet; new = taken }
     ∷ record { side = Ground; call = Plain 1 0 6 2 load; new = asked }
@@ -58,6 +59,7 @@ called_and_reset asked taken read done more again =
     ∷ Makes (record { side = Craft; call = Packet load_packet; new = more })
     ∷ Keeps Craft
     ∷ Makes (record { side = Craft; call = Execute; new = done })
+    ∷ Makes (record { side = Craft; call = Fails; new = read })
     ∷ Makes (record { side = Craft; call = Read; new = read })
     ∷ Makes (record { side = Craft; call = Packet load_packet; new = taken })
     ∷ Keeps Ground

@@ -7,9 +7,10 @@ ghost use Rattle.lpt_c_pair_examples.specs.TakenBack.{WrittenCanBeTakenBack};
 ghost use Rattle.lpt_c_pair_examples.specs.Worked.{TornCanBeRedone, WorkedCanBe, WrittenCanBePutBack};
 
 /// With any two new ends, of which the spacecraft's has its memory: ground asks for a load; the
-/// spacecraft takes its packet, reads and executes it, and is restored from its state. All of it
-/// can be done; the load was released and executed, and stands in the memory. It is the same if the
-/// machine is reset after that, when the packet has come once more.
+/// spacecraft takes its packet, reads it, and by a call that fails no other, executes it, and is
+/// restored from its state. All of it can be done; the load was released and executed, and stands
+/// in the memory. It is the same if the machine is reset after that, when the packet has come once
+/// more.
 pub fn calls_can_be()
     ensures { CallsCanBe }
 {}

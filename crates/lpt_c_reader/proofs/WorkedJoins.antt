@@ -19,11 +19,11 @@ use Rattle.lpt_layout.specs.declared.layout.Layout.{Layout}
 use Rattle.lpt_layout_each.proofs.HeldsLemmas.{each-none, told-none}
 use Rattle.lpt_layout_each.proofs.LeftLemmas.{left-none}
 use Rattle.lpt_layout_each.specs.Eaches.{course_held, nothing}
-use Rattle.lpt_layout_each.specs.Helds.{Follows, IsHeld}
+use Rattle.lpt_layout_each.specs.Helds.{IsHeld, IsKept}
 use Rattle.lpt_layout_each.specs.Lefts.{HoldsYet, left_yet}
 use Rattle.lpt_layout_each.specs.News.{Event}
 use Rattle.lpt_layout_each.specs.Streams.{left_of}
-use Rattle.lpt_layout_each.specs.declared.course.CourseAs.{CourseAs}
+use Rattle.lpt_layout_each.specs.declared.kept.KeptAs.{KeptAs}
 use Rattle.lpt_layout_join.proofs.NameLemmas.{name_tied}
 use Rattle.lpt_layout_join.specs.Counts.{Counted, count_of, counted_by, is_own, packet_counted}
 use Rattle.lpt_layout_join.specs.CountsInside.{counts_shown}
@@ -107,8 +107,8 @@ no_some : {A : Type 0} (x : A) → ◌≡◌ {A = Option A} None (Some x) → �
 no_some x h = cc
 
 -- what is none at each name that is found is none of all
-all-none : (f : Name → List Event) (es : List (Name × CourseAs))
-    → ((n : Name) (k : CourseAs) → lookup (is_at (name_cmp n)) es ≡ Some k → f n ≡ [])
+all-none : (f : Name → List Event) (es : List (Name × KeptAs))
+    → ((n : Name) (k : KeptAs) → lookup (is_at (name_cmp n)) es ≡ Some k → f n ≡ [])
     → flat_map f (keys_of es) ≡ []
 all-none f [] none = refl
 all-none f (e ∷ es) none =
@@ -116,7 +116,7 @@ all-none f (e ∷ es) none =
     (none e.0 e.1 (ap (λ b. cond b (Some e.1) (lookup (is_at (name_cmp e.0)) es))
     (name_tied e.0 e.0 ∙ same_name-refl e.0)))
     ∙ all-none f es (λ n k is. behind n k (is_eq (name_cmp n e.0)) refl is) where
-      behind : (n : Name) (k : CourseAs) (b : Bool)
+      behind : (n : Name) (k : KeptAs) (b : Bool)
           → is_eq (name_cmp n e.0) ≡ b
           → lookup (is_at (name_cmp n)) es ≡ Some k
           → f n ≡ []
@@ -133,8 +133,8 @@ left-of-none : (j : Joins) (bs : List (List ℕ))
 left-of-none j bs begun yet =
     all-none (left_of j.reading j.any bs) j.helds.kept.entries (λ n k is.
     let now = yet n k is in
-    let first : Follows nothing k =
-    subst (λ (o : Option CourseAs). IsHeld nothing o) is (begun.held.each n) in
+    let first : IsKept nothing k =
+    subst (λ (o : Option KeptAs). IsHeld nothing o) is (begun.held.each n) in
     left-none n (course_held j.reading j.any n bs) (ap (λ (h : ℕ). h == 0)
     (sym now.new.highest_is ∙ first.new.highest_is)))
 

@@ -7,7 +7,7 @@ use Rattle.lpt_layout_join.specs.declared.came.CameAs.{CameAs}
 use Rattle.lpt_layout_join.specs.declared.ending.MisfitAs.{MisfitAs}
 use Rattle.lpt_layout_join.specs.declared.ending.MisfitAs.TheVariants as misfit
 use Rattle.lpt_layout_join.specs.declared.last_part.LastPart.{LastPart}
-use Rattle.lpt_layout_join.specs.CameInside.{highest_in, last_in, part_at}
+use Rattle.lpt_layout_join.specs.CameInside.{began_in, highest_in, last_in, part_at}
 use Rattle.lpt_packet.specs.declared.direction.Direction.{Direction}
 use Rattle.lpt_packet.specs.declared.direction.Direction.TheVariants.{Up, Down}
 use Rattle.lpt_packet.specs.FaultNames as of_packet
@@ -54,7 +54,7 @@ number_or (Some l) = l.number
 -- with parts that came
 abbrev pub with_came : CameAs → LptMessage → LptMessage
 with_came s i = record i {
-  first = place_or s.began;
+  first = place_or (began_in s);
   highest = highest_in s;
   last = number_or (last_in s);
 }

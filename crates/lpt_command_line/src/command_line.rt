@@ -212,7 +212,7 @@ fn command_of<'a>(
         "compare" => compare_command(alloc, words),
         "checksum" => checksum_command(words),
         "spacecraft" => spacecraft_command(alloc, words),
-        _ => decode_command(words),
+        _ => Ok(decode_command(words)),
     }
 }
 

@@ -172,8 +172,8 @@ pub(crate) static DECODE: CommandRow = CommandRow {
     words: &[Word {
         name: "HEX",
         value: TEXT,
-        need: Need::One,
-        help: "Octets as hexadecimal digits, or - for standard input",
+        need: Need::May,
+        help: "Octets as hexadecimal digits, or - for none; without HEX standard input has them",
     }],
     named: &[MORE, LAYOUT],
     configured: Configured::Packets,

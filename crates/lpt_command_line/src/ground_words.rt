@@ -40,6 +40,8 @@ pub struct GroundWords<'a> {
     pub chart: Option<&'a str>,
     /// Whether octets with which no packet begins are passed over.
     pub resync: bool,
+    /// How many octets the longest packet on the link has, if it is given: 7 to 65,542.
+    pub longest: Option<u32>,
     /// Whether each line on standard error is an object of JSON.
     pub json: bool,
 }
@@ -149,6 +151,7 @@ fn ground_with<'a>(
         kept: matches.get_str("job"),
         chart: matches.get_str("chart"),
         resync: matches.get_flag("resync"),
+        longest: matches.get_one("longest"),
         json: matches.get_flag("json"),
     })
 }
@@ -251,7 +254,7 @@ fn filed_area<'a>(
     })
 }
 
-// The areas that become files, each one of its own.
+// The areas that become files.
 fn dumped_areas<'a>(
     alloc: Global,
     matches: &ArgMatches<'a>,
@@ -286,24 +289,11 @@ fn add_dumped<'a>(
         if area.file == STANDARD {
             return Err(WordFault::NoPath("--area <ADDRESS> <LENGTH> <FILE>"));
         }
-        if has_file(areas, area.file) {
-            return Err(WordFault::SameFile(area.file));
-        }
         if areas.push(area).is_err() {
             return Err(WordFault::Memory);
         }
     }
     Ok(())
-}
-
-// Whether one of these areas becomes this file.
-fn has_file(areas: &[AreaWords<'_>], file: &str) -> bool {
-    for area in areas {
-        if area.file == file {
-            return true;
-        }
-    }
-    false
 }
 
 // The area of so many octets at an address that becomes a file.

@@ -3,7 +3,7 @@
 use crate::asking::{ADDRESS, MEMORY};
 use crate::commands::{COUNT, JSON, QUIET, TEXT};
 use crate::passes::{
-    DAMAGE, DELAY, LOSE, MEMORY as CRAFT_MEMORY, REPEAT, RESYNC, SAVE, SEED, STATE,
+    DAMAGE, DELAY, LONGEST, LOSE, MEMORY as CRAFT_MEMORY, REPEAT, RESYNC, SAVE, SEED, STATE,
 };
 use crate::row::{CommandRow, Configured, NamedRow, Need, Word};
 use clap::ArgAction;
@@ -105,7 +105,8 @@ const JOB: NamedRow = NamedRow {
     behind: &["FILE"],
     action: ArgAction::Set,
     other: &[],
-    help: "Keep in this file what is completed, so that the same command goes on from it",
+    help: "Keep in this file what is completed; the same command with another source goes on from \
+           it",
 };
 
 const CHART: NamedRow = NamedRow {
@@ -123,7 +124,8 @@ const PASSES: NamedRow = NamedRow {
     behind: &["FILE"],
     action: ArgAction::Set,
     other: &[],
-    help: "Take the source after the one in this file, and write it there; in place of --source",
+    help: "Take the source after the one in this file, and write it there; in place of --source. \
+           All operators of a spacecraft share one file",
 };
 
 const AREA: NamedRow = NamedRow {
@@ -172,7 +174,7 @@ const TO: NamedRow = NamedRow {
 };
 
 /// The words that each command below `ground` takes after its own.
-pub(crate) static GROUND_WORDS: [NamedRow; 6] = [UP, JOB, CHART, RESYNC, JSON, QUIET];
+pub(crate) static GROUND_WORDS: [NamedRow; 7] = [UP, JOB, CHART, RESYNC, LONGEST, JSON, QUIET];
 
 /// `ground load`.
 pub(crate) static GROUND_LOAD: CommandRow = CommandRow {
@@ -218,9 +220,10 @@ const PASS_SEED: NamedRow = NamedRow {
 };
 
 /// The words that each command below `pass` takes after its own.
-pub(crate) static PASS_WORDS: [NamedRow; 12] = [
+pub(crate) static PASS_WORDS: [NamedRow; 13] = [
     JOB,
     CHART,
+    LONGEST,
     JSON,
     CRAFT_MEMORY,
     SAVE,

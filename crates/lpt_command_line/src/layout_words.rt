@@ -3,7 +3,6 @@
 use crate::command_line::Command;
 use crate::commands::TEXT;
 use crate::row::NamedRow;
-use crate::word_fault::WordFault;
 use clap::builder::ValueParser;
 use clap::{ArgAction, ArgMatches};
 
@@ -31,8 +30,8 @@ pub(crate) const MORE: NamedRow = NamedRow {
 /// What `decode` asks for.
 #[derive(Clone, Copy)]
 pub struct DecodeWords<'a> {
-    /// Octets as hexadecimal digits, or `-` for standard input.
-    pub hex: &'a str,
+    /// Octets as hexadecimal digits, or `-` for none; without a word standard input has the digits.
+    pub hex: Option<&'a str>,
     /// Whether areas and segments are said.
     pub more: bool,
     /// The path of the layouts, if one is given.
@@ -40,17 +39,12 @@ pub struct DecodeWords<'a> {
 }
 
 /// What the words of `decode` ask for.
-///
-/// Errors: `Missing`.
-pub(crate) fn decode_command<'a>(matches: &ArgMatches<'a>) -> Result<Command<'a>, WordFault<'a>> {
-    let Some(hex) = matches.get_str("HEX") else {
-        return Err(WordFault::Missing);
-    };
-    Ok(Command::Decode(DecodeWords {
-        hex,
+pub(crate) fn decode_command<'a>(matches: &ArgMatches<'a>) -> Command<'a> {
+    Command::Decode(DecodeWords {
+        hex: matches.get_str("HEX"),
         more: matches.get_flag("more"),
         layout: layout_in(matches),
-    }))
+    })
 }
 
 // The path of the layouts, if one is given.

@@ -1,8 +1,8 @@
 //! The command line of `lpt`: what its words ask for.
 //!
 //! The commands are rows of tables (`src/commands.rt`), by which clap reads the words and prints
-//! the help. The main type is `CommandLine`, and the first call `read_words`, which gives one, or why
-//! nothing is to be done.
+//! the help. The main type is `CommandLine`, and the first call `read_words`, which gives one, or
+//! why nothing is to be done.
 //!
 //! A new command is a row in `src/commands.rt`, which `src/building.rt` adds; a case of `Command`
 //! in `src/command_line.rt`, with a line in `command_of`, and a function which makes that case of
@@ -45,9 +45,9 @@ pub use lpt_part::Mode;
 pub use lpt_pus::AckFlags;
 pub use pass_words::PassWords;
 pub use request_words::{RequestWords, What};
-pub use setting_words::SettingWords;
+pub use setting_words::{SettingWords, longest_on_link};
 pub use spacecraft_words::SpacecraftWords;
 pub use split_words::{GivenPick, SplitEachWords, SplitOneWords, SplitWords, name_within};
 pub use tailored_words::{JoinLayoutWords, WideName};
 pub use verify_words::VerifyWords;
-pub use word_fault::WordFault;
+pub use word_fault::{TwoUses, WordFault};

@@ -16,6 +16,8 @@ pub struct LinkWords<'a> {
     pub files: Vec<&'a str>,
     /// What becomes of them.
     pub odds: OddsWords,
+    /// How often bits of a packet's header are changed, in millionths.
+    pub headers: u32,
     /// The path of the layouts, if one is given.
     pub layout: Option<&'a str>,
 }
@@ -48,6 +50,7 @@ pub(crate) fn link_command<'a>(
     Ok(Command::Link(LinkWords {
         files: Vec::from_slice(alloc, files)?,
         odds: odds_words(matches)?,
+        headers: odds_in(matches, "damage-headers")?,
         layout: layout_in(matches),
     }))
 }

@@ -33,6 +33,15 @@ pub(crate) const DAMAGE: NamedRow = NamedRow {
     help: "The share of packets in which bits change, so that the checksum is wrong",
 };
 
+pub(crate) const DAMAGE_HEADERS: NamedRow = NamedRow {
+    name: "damage-headers",
+    value: TEXT,
+    behind: &["P"],
+    action: ArgAction::Set,
+    other: &["0%"],
+    help: "The share of packets whose header is damaged, also its first octet and its length",
+};
+
 pub(crate) const DELAY: NamedRow = NamedRow {
     name: "delay",
     value: ValueParser::Signed(0, 1000),
@@ -88,12 +97,31 @@ pub(crate) const RESYNC: NamedRow = NamedRow {
            was sent",
 };
 
+pub(crate) const LONGEST: NamedRow = NamedRow {
+    name: "longest",
+    value: ValueParser::Signed(7, 65_542),
+    behind: &["N"],
+    action: ArgAction::Set,
+    other: &[],
+    help: "The octets of the longest packet on the link; a header that says more is damaged \
+           [default: the part size and 23]",
+};
+
 /// `link`.
 pub(crate) static LINK: CommandRow = CommandRow {
     name: "link",
     about: "Lose, repeat, delay and damage packets, as a bad link does",
     words: &[PACKETS],
-    named: &[LOSE, REPEAT, DAMAGE, DELAY, SEED, LAYOUT, QUIET],
+    named: &[
+        LOSE,
+        REPEAT,
+        DAMAGE,
+        DAMAGE_HEADERS,
+        DELAY,
+        SEED,
+        LAYOUT,
+        QUIET,
+    ],
     configured: Configured::No,
 };
 
@@ -132,6 +160,7 @@ pub(crate) static SPACECRAFT: CommandRow = CommandRow {
                    packet may be on its way then",
         },
         RESYNC,
+        LONGEST,
         NamedRow {
             name: "log",
             value: ValueParser::Bool,

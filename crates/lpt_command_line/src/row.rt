@@ -63,6 +63,8 @@ pub(crate) struct Word {
 pub(crate) enum Need {
     /// It must.
     One,
+    /// It needn't.
+    May,
     /// It must, and more behind it; help calls them by these names in turn.
     Several(&'static [&'static str]),
     /// It needn't, and is this one then.
@@ -74,7 +76,7 @@ pub(crate) enum Need {
 impl Need {
     // Whether it must be there.
     pub(crate) fn is_needed(self) -> bool {
-        !matches!(self, Need::Else(_) | Need::Any(_))
+        !matches!(self, Need::May | Need::Else(_) | Need::Any(_))
     }
 
     // The names by which help calls them, if it has others than its own.

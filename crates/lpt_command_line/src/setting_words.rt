@@ -101,6 +101,15 @@ pub(crate) static PASS_SETTINGS: [NamedRow; 4] = [
     PART_SIZE,
 ];
 
+/// How many octets the longest packet on the link has: as many as are given, or else as one has
+/// that carries a part of this size.
+pub fn longest_on_link(given: Option<u32>, part_size: u32) -> usize {
+    match given {
+        Some(longest) => longest as usize,
+        None => part_size.saturating_add(23) as usize,
+    }
+}
+
 /// What the words of a command give of a configuration.
 pub(crate) fn setting_words<'a>(matches: &ArgMatches<'a>) -> SettingWords<'a> {
     SettingWords {

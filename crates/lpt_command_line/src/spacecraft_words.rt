@@ -21,6 +21,8 @@ pub struct SpacecraftWords<'a> {
     pub reuse: u32,
     /// Whether octets with which no packet can begin are passed over.
     pub resync: bool,
+    /// How many octets the longest packet on the link has, if it is given: 7 to 65,542.
+    pub longest: Option<u32>,
     /// Whether all that happens is told.
     pub log: bool,
     /// The file in which the state and the memories are kept.
@@ -46,6 +48,7 @@ pub(crate) fn spacecraft_command<'a>(
         tick: tick.unwrap_or(0),
         reuse: matches.get_one("reuse").unwrap_or(0),
         resync: matches.get_flag("resync"),
+        longest: matches.get_one("longest"),
         log: matches.get_flag("log"),
         state: matches.get_str("state"),
     }))
@@ -65,6 +68,7 @@ pub(crate) fn passed_words<'a>(
         tick: 0,
         reuse: 0,
         resync: true,
+        longest: matches.get_one("longest"),
         log: false,
         state: matches.get_str("state"),
     })

@@ -63,17 +63,25 @@ pub enum WordFault<'a> {
     NoInput,
     /// The file or the folder of this word is to be standard input or output.
     NoPath(&'static str),
-    /// Two areas are to become this file.
-    SameFile(&'a str),
-    /// A dump is to become this file, which this option names as well.
-    Overwritten {
-        file: &'a str,
-        option: &'static str,
-    },
+    /// A file is used by two words, and one of them writes it.
+    UsedTwice(TwoUses<'a>),
     /// What is completed of a load is to be kept, but not what was loaded.
     Unkept,
     /// Memory runs out.
     Memory,
+}
+
+/// A file that two words use.
+#[derive(Clone, Copy)]
+pub struct TwoUses<'a> {
+    /// The file.
+    pub file: &'a str,
+    /// The first word, as help has it.
+    pub one: &'static str,
+    /// The other.
+    pub other: &'static str,
+    /// Whether one of both names another file, and writes this one beside it.
+    pub beside: bool,
 }
 
 impl From<AllocError> for WordFault<'_> {
@@ -118,10 +126,7 @@ impl WordFault<'_> {
             WordFault::SharedInput => shared_input(alloc),
             WordFault::NoInput => no_input(alloc),
             WordFault::NoPath(place) => no_path(alloc, place),
-            WordFault::SameFile(file) => format!(in alloc; "two areas would become {file}"),
-            WordFault::Overwritten { file, option } => {
-                format!(in alloc; "the dump would overwrite {file}, the file of '{option}'")
-            }
+            WordFault::UsedTwice(uses) => used_twice(alloc, uses),
             WordFault::Unkept => unkept(alloc),
             WordFault::Memory => format!(in alloc; "out of memory"),
         }
@@ -181,6 +186,22 @@ fn no_input(alloc: Global) -> Result<String, AllocError> {
 // What is reported if standard input or output is to be a file or a folder.
 fn no_path(alloc: Global, place: &str) -> Result<String, AllocError> {
     format!(in alloc; "the argument '{place}' cannot be '-': a file of that name is ./-")
+}
+
+// What is reported of a file that two words use.
+fn used_twice(alloc: Global, uses: &TwoUses<'_>) -> Result<String, AllocError> {
+    let TwoUses {
+        file,
+        one,
+        other,
+        beside,
+    } = *uses;
+    let why = if beside {
+        ": FILE.part and FILE.lock belong to a FILE that is written"
+    } else {
+        ""
+    };
+    format!(in alloc; "'{one}' and '{other}' would both use {file}{why}")
 }
 
 // What is reported of a job's file beside a spacecraft that forgets what was loaded.

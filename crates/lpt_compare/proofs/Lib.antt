@@ -1,3 +1,2 @@
 mod CheckLemmas
-pub mod OwnLemmas
 pub mod ReachLemmas

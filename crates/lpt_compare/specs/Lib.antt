@@ -1,6 +1,5 @@
 pub mod Checks
 pub mod ChecksInside
 pub mod Images
-pub mod Own
 pub mod Read
 pub mod Sayings

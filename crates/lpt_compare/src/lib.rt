@@ -9,7 +9,6 @@
 mod checked;
 mod checks;
 mod image;
-pub mod laws;
 mod others;
 mod reading;
 

@@ -3,35 +3,35 @@
 ghost use Rattle.lpt_events.specs.Configs.{IsConfig};
 
 use lpt_command_line::{Job, OddsWords, PassWords, SettingWords, WordFault};
-use lpt_end_machine::{EndMachine, PlainMachine};
+use lpt_end_machine::{EndMachine, PlainMachine, used_twice};
 use lpt_events::Config;
 use lpt_ground_commands::{
-    Errand, ErrandKind, GroundNotes, Piece, Places, Ready, Teller, check_chart, check_places,
-    hear_source, job_lock, overwritten, pieces_of, put_over, ready_of,
+    Errand, ErrandKind, GroundNotes, Piece, Places, Ready, Teller, check_places, files_used,
+    hear_source, job_lock, limit_of, pieces_of, put_over, ready_of,
 };
 use lpt_ground_run::{Asked, Fate};
 use lpt_io::{Failure, Fault, Status, Voice, Watched, config_of, word_refused};
 use lpt_lossy::{Dice, Layouts, LossyLink, Odds, lossy_stream};
 use lpt_spacecraft_commands::{
-    Begun, PipeReader, PipeWriter, Unread, Wires, begun_craft, pipe, serve,
+    Begun, PipeReader, PipeWriter, Unread, Wires, begun_craft, pipe, serve, short_pipe,
 };
 use lpt_text::{FromStd, StreamFault};
 use std::alloc::{AllocError, Global};
 use std::sync::Wait;
 use std::thread::{self, JoinHandle, Threads};
-use std::time::Clock;
+use std::time::{Clock, Duration};
 
 /// Carries what is asked of a memory to its end, over two links that lose packets and a spacecraft,
 /// as the process of this number.
 ///
 /// Errors: as of `ground` and of `spacecraft`; the spacecraft's before ground's.
-pub fn pass<R, T>(
+pub fn pass<'w, R, T>(
     rt: &R,
     threads: &T,
     process: u32,
     voice: Voice,
-    settings: &SettingWords<'_>,
-    words: &PassWords<'_>,
+    settings: &SettingWords<'w>,
+    words: &PassWords<'w>,
 ) -> Result<Status, Failure>
 where
     R: EndMachine + Sync,
@@ -43,12 +43,12 @@ where
         ..*settings
     };
     let config = config_of(rt, &settings)?;
-    check_chart(rt, &settings, &words.ground, Some(&words.craft))?;
-    if let Some(fault) = overwritten(rt, &settings, &words.ground, Some(&words.craft)) {
+    let files = files_used(rt.alloc(), &settings, &words.ground, Some(&words.craft))?;
+    if let Some(fault) = used_twice(rt, &files) {
         return Ok(word_refused(rt, rt.alloc(), &fault));
     }
     check_places(rt, &words.ground)?;
-    let Some(pieces) = pieces_of(rt, &words.ground)? else {
+    let Some(pieces) = pieces_of(rt, &words.ground, files)? else {
         return Ok(Status::Unreadable);
     };
     if !is_kept(words, &pieces) && words.ground.kept.is_some() {
@@ -127,11 +127,9 @@ where
     R: EndMachine + Sync,
     T: Threads + Wait + Clock + Copy + Drop + Send + Sync + 'static,
 {
-    let Ready { mut errand, title } = ready;
-    let teller = Teller::new(voice, words.ground.json);
-    let path = words.ground.kept;
-    let notes = GroundNotes::begin(rt, teller, title.as_str(), &mut errand.first, path)?;
-    if let (Some(path), Some(lost)) = (path, lost_of(&errand, &craft)) {
+    let Ready { errand, job } = ready;
+    let notes = GroundNotes::begin(rt, Teller::new(voice, words.ground.json), job);
+    if let (Some(path), Some(lost)) = (words.ground.kept, lost_of(&errand, &craft)) {
         return Err(memory_lost(rt, path, &lost));
     }
     fly(rt, threads, words, craft, errand, notes)
@@ -192,11 +190,16 @@ struct Pipes<T: Wait + Drop> {
 }
 
 // New pipes. Once ground has ended, what still comes down is dropped; once the spacecraft has, what
-// goes up fails.
-fn new_pipes<T: Wait + Copy + Drop>(alloc: Global, waits: &T) -> Result<Pipes<T>, AllocError> {
+// goes up fails. What goes up waits for the spacecraft, for so long at most, so that repeats don't
+// pile up if its disk is slow; what comes down never waits, so that nobody waits for ever.
+fn new_pipes<T: Wait + Copy + Drop>(
+    alloc: Global,
+    waits: &T,
+    limit: Duration,
+) -> Result<Pipes<T>, AllocError> {
     Ok(Pipes {
-        ground_up: pipe(alloc, waits, Unread::Fails)?,
-        craft_up: pipe(alloc, waits, Unread::Fails)?,
+        ground_up: short_pipe(alloc, waits, Some(limit))?,
+        craft_up: short_pipe(alloc, waits, None)?,
         craft_down: pipe(alloc, waits, Unread::Dropped)?,
         ground_down: pipe(alloc, waits, Unread::Dropped)?,
     })
@@ -215,7 +218,7 @@ where
     R: EndMachine + Sync,
     T: Threads + Wait + Clock + Copy + Drop + Send + Sync + 'static,
 {
-    let Ok(pipes) = new_pipes(rt.alloc(), threads) else {
+    let Ok(pipes) = new_pipes(rt.alloc(), threads, limit_of(&words.ground)) else {
         return Err(Failure::from(Fault::Memory));
     };
     let Pipes {
@@ -249,7 +252,7 @@ where
 }
 
 // Carries packets over a link, whose seed is so much more than the one that is given.
-fn carry_link<T: Wait + Drop>(
+fn carry_link<T: Wait + Clock + Drop>(
     alloc: Global,
     words: OddsWords,
     way: u64,
@@ -260,6 +263,7 @@ fn carry_link<T: Wait + Drop>(
         lose: words.lose,
         repeat: words.repeat,
         damage: words.damage,
+        headers: 0,
         delay: words.delay,
     };
     let link = LossyLink {
@@ -292,7 +296,7 @@ fn carry_between<R: PlainMachine, T: Threads + Wait + Clock + Copy + Drop + Send
         rt,
         threads,
         FromStd::new(down),
-        words.resync,
+        errand.cutting,
         words.wait,
         terms,
         notes,

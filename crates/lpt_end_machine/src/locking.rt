@@ -4,9 +4,33 @@ use crate::machine::EndMachine;
 use lpt_io::{Failure, Fault, file_behind};
 use std::fs::{OpenFile, OpenOptions, TryLockError};
 use std::io::{self, Read, Write};
+use std::rt::Files;
+use std::thread;
+use std::time::Duration;
 
 /// More octets than the file of a lock has: those of a number of 32 bits, and a line end.
 const LONGER: usize = 12;
+
+/// How long is waited before a lock is tried again, in milliseconds, and how often it is tried.
+const PAUSE: u64 = 20;
+
+const TRIES: u32 = 500;
+
+/// The lock of the file to which this path leads, as of `locked_file`, but while another process
+/// holds it, it is waited for, for 10 seconds at most.
+///
+/// Errors: as of `locked_file`.
+pub fn awaited_lock<R: EndMachine>(rt: &R, process: u32, path: &str) -> Result<R::File, Failure> {
+    let path = path_behind(rt, path)?;
+    let path = path.as_str();
+    for _ in 0..TRIES {
+        if let Some(lock) = free_lock(rt, process, path)? {
+            return Ok(lock);
+        }
+        thread::sleep(rt, Duration::from_millis(PAUSE));
+    }
+    Err(in_use(rt, path))
+}
 
 /// The lock of the file to which this path leads, as of `locked_file`.
 ///
@@ -28,22 +52,30 @@ pub fn locked_file<R: EndMachine>(
     process: u32,
     path: &str,
 ) -> Result<(String, R::File), Failure> {
-    let path = match file_behind(rt, path) {
-        Ok(path) => path,
-        Err(error) => {
-            let place = format!(in rt.alloc(); "{path}: {error}");
-            return Err(Failure::at(Fault::Read, place));
-        }
-    };
-    let lock = lock_beside(rt, process, path.as_str())?;
-    Ok((path, lock))
+    let path = path_behind(rt, path)?;
+    match free_lock(rt, process, path.as_str())? {
+        Some(lock) => Ok((path, lock)),
+        None => Err(in_use(rt, path.as_str())),
+    }
 }
 
-// The lock of the file at this path.
+// The path of the file to which this one leads.
 //
-// Errors: `Write` if another process holds it, it can't be had, or the file of its name is no
-// lock's.
-fn lock_beside<R: EndMachine>(rt: &R, process: u32, path: &str) -> Result<R::File, Failure> {
+// Errors: `Read`.
+fn path_behind(rt: &(impl Files + AllocGlobal), path: &str) -> Result<String, Failure> {
+    match file_behind(rt, path) {
+        Ok(path) => Ok(path),
+        Err(error) => {
+            let place = format!(in rt.alloc(); "{path}: {error}");
+            Err(Failure::at(Fault::Read, place))
+        }
+    }
+}
+
+// The lock of the file at this path; none if another process holds it.
+//
+// Errors: `Write` if it can't be had, or the file of its name is no lock's.
+fn free_lock<R: EndMachine>(rt: &R, process: u32, path: &str) -> Result<Option<R::File>, Failure> {
     let Ok(name) = format!(in rt.alloc(); "{path}.lock") else {
         return Err(Failure::from(Fault::Memory));
     };
@@ -58,16 +90,16 @@ fn lock_beside<R: EndMachine>(rt: &R, process: u32, path: &str) -> Result<R::Fil
         Ok(()) => {}
         Err(fault) => {
             drop(file);
-            return Err(match fault {
-                TryLockError::WouldBlock => in_use(rt, path, name.as_str()),
-                TryLockError::Error(error) => not_locked(rt, name.as_str(), &error),
-            });
+            return match fault {
+                TryLockError::WouldBlock => Ok(None),
+                TryLockError::Error(error) => Err(not_locked(rt, name.as_str(), &error)),
+            };
         }
     }
     match is_lock(&mut file) {
         Ok(true) => {
             write_number(process, &mut file);
-            Ok(file)
+            Ok(Some(file))
         }
         Ok(false) => {
             drop(file);
@@ -81,9 +113,9 @@ fn lock_beside<R: EndMachine>(rt: &R, process: u32, path: &str) -> Result<R::Fil
 }
 
 // That another process uses the file.
-fn in_use(rt: &impl AllocGlobal, path: &str, name: &str) -> Failure {
+fn in_use(rt: &impl AllocGlobal, path: &str) -> Failure {
     let place = format!(in rt.alloc();
-        "{path}: another process uses it, the one whose number stands in {name}"
+        "{path}: another process uses it, the one whose number stands in {path}.lock"
     );
     Failure::at(Fault::Write, place)
 }

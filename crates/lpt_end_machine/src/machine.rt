@@ -1,8 +1,8 @@
 //! What an end reaches of the machine that it runs on.
 
 use lpt_io::{Failure, Machine, write_for_good};
-use std::fs::{File, TryLockError};
-use std::io::Read;
+use std::fs::{File, OpenOptions, TryLockError};
+use std::io::{self, Read, Write};
 use std::rt::{Clock, Files};
 
 /// Files that last, whatever ends the process or the machine.
@@ -21,6 +21,14 @@ pub trait EndMachine: Machine + LastingFiles {
 
     /// Standard input.
     fn standard_input(&self) -> Self::Standard;
+
+    /// What requests are written to, in the hands of one thread.
+    type Uplink: Write + Drop + Send + 'static;
+
+    /// What requests are written to: the file at a path, or standard output.
+    ///
+    /// Errors: those of opening the file.
+    fn uplink(&self, path: Option<&str>) -> io::Result<Self::Uplink>;
 
     /// Locks a file, without waiting: the lock is held until the file is dropped.
     ///
@@ -42,11 +50,45 @@ impl<R: Files<File = File> + AllocGlobal> LastingFiles for R {
     }
 }
 
-impl<R: Machine + Files<File = File>> EndMachine for R
+/// Standard output, or a file, to which requests are written.
+#[derive(Drop)]
+pub enum Uplink<R> {
+    /// The standard output of this machine.
+    Standard(R),
+    /// This file.
+    File(File),
+}
+
+impl<R: Print> Write for Uplink<R> {
+    fn write(&mut self, buf: &[u8]) -> io::Result<usize> {
+        match self {
+            Uplink::Standard(rt) => rt.write_some(buf),
+            Uplink::File(file) => file.write(buf),
+        }
+    }
+
+    // Nothing is kept back.
+    fn flush(&mut self) -> io::Result<()> {
+        Ok(())
+    }
+}
+
+impl<R: Machine + Files<File = File> + Send + 'static> EndMachine for R
 where
     R::Reader: Send + 'static,
 {
     type Standard = R::Reader;
+
+    type Uplink = Uplink<R>;
+
+    fn uplink(&self, path: Option<&str>) -> io::Result<Uplink<R>> {
+        let Some(path) = path else {
+            return Ok(Uplink::Standard(*self));
+        };
+        let mut options = OpenOptions::new();
+        options.write(true);
+        Ok(Uplink::File(options.open(self, path)?))
+    }
 
     fn standard_input(&self) -> R::Reader {
         self.reader()

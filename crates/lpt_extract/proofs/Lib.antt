@@ -5,7 +5,6 @@ mod GiveLemmas
 mod ImageLemmas
 mod JoinedLemmas
 mod LayoutJoinLemmas
-mod OwnLemmas
 mod PartLemmas
 mod ReadLemmas
 mod SeenLemmas

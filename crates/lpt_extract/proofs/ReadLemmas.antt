@@ -147,4 +147,4 @@ pub whole-sealed : (cut : Cut) (b : List ℕ)
     → verdict b ≢ Err Checksum
 whole-sealed Sealed b h e = h refl
 whole-sealed Framed b h e = absurd cc
-whole-sealed Resumed b h e = absurd cc
+whole-sealed (Resumed l) b h e = absurd cc

@@ -82,4 +82,4 @@ pub record IsExtracted (from : ℕ) (first now : Extraction) (heard hears : Opti
 abbrev pub is_sealed : Cut → Bool
 is_sealed Sealed = true
 is_sealed Framed = false
-is_sealed Resumed = false
+is_sealed (Resumed l) = false

@@ -8,7 +8,6 @@ pub mod Joined
 pub mod JoinedInside
 pub mod LayoutJoined
 pub mod Notices
-pub mod Own
 pub mod Reports
 pub mod ReportsInside
 pub mod Tallies

@@ -55,6 +55,11 @@ impl Cover {
         gaps
     }
 
+    // The gaps so far.
+    pub(crate) fn gaps(&self) -> &BTreeMap<u64, u64> {
+        &self.gaps
+    }
+
     // Notes where an area ends, and no gaps.
     pub(crate) fn reach(&mut self, end: u64)
         ensures end { end_of_cover self.new ≡ max (end_of_cover self.old) end }

@@ -55,9 +55,11 @@ impl Holding {
         ensures tally { result.tally ≡ self.tally }
     {
         let Holding { image, tally } = self;
+        let (gaps, clashes) = image.into_gaps();
         Extracted {
             end,
-            gaps: image.into_gaps(),
+            gaps,
+            clashes,
             tally,
         }
     }

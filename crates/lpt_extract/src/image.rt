@@ -3,6 +3,7 @@
 ghost use Rattle.std.specs.Prelude.{◌<◌, ◌≤◌, length};
 
 use crate::ImagePlace;
+use crate::clashes::Clashes;
 use crate::cover::Cover;
 use std::alloc::{AllocError, Global};
 use std::collections::BTreeMap;
@@ -15,6 +16,7 @@ const IMAGE_LIMIT: u64 = 268_435_456;
 pub(crate) struct Image {
     octets: Vec<u8>,
     cover: Cover,
+    clashes: Clashes,
 }
 
 impl Image {
@@ -34,6 +36,7 @@ impl Image {
         Image {
             octets: Vec::new(alloc),
             cover: Cover::new(alloc),
+            clashes: Clashes::new(alloc),
         }
     }
 
@@ -51,12 +54,16 @@ impl Image {
         self.cover.has_gaps()
     }
 
-    // The gaps.
-    pub(crate) fn into_gaps(self) -> BTreeMap<u64, u64>
-        ensures { gaps_in result ≡ gaps_of self.cover }
+    // The gaps, and where areas contradict one another.
+    pub(crate) fn into_gaps(self) -> (BTreeMap<u64, u64>, BTreeMap<u64, u64>)
+        ensures { gaps_in result.0 ≡ gaps_of self.cover }
     {
-        let Image { octets: _, cover } = self;
-        cover.into_gaps()
+        let Image {
+            octets: _,
+            cover,
+            clashes,
+        } = self;
+        (cover.into_gaps(), clashes.into_spans())
     }
 
     // The octets.
@@ -86,7 +93,8 @@ impl Image {
         Some(size as usize)
     }
 
-    // Puts an area over the octets. The only error is out of memory.
+    // Puts an area over the octets, and notes where it contradicts them. The only error is out of
+    // memory.
     pub(crate) fn put(
         &mut self,
         place: &ImagePlace,
@@ -100,6 +108,7 @@ impl Image {
             (areas ++ record { address = address; octets = octets.now } ∷ []) self.new) }
     {
         let first = u64::from(address);
+        self.clashes.note(place.from, &self.octets, self.cover.gaps(), address, octets)?;
         self.cover
             .add(u64::from(place.from), first, first + octets.len() as u64)?;
         let Some(size) = self.size(place.from) else {

@@ -11,6 +11,7 @@
 //! may come in parts, of the profile (`Reading::own`) or of a mission's layout.
 #![tactic(auto)]
 
+mod clashes;
 mod cover;
 mod ending;
 mod extracted;
@@ -19,7 +20,6 @@ mod holding;
 mod image;
 mod joining;
 mod joins;
-pub mod laws;
 mod layout_joins;
 mod notice;
 mod report;

@@ -6,13 +6,16 @@ use Rattle.std.proofs.lemmas.Bool.{and_parts, false_from_ne_true}
 use Rattle.std.proofs.lemmas.Bool.Decides.{nat_tests}
 use Rattle.lpt_packet.specs.Numbers.{be, word_at}
 use Rattle.lpt_packet.proofs.BoolLemmas.{le_true}
+use Rattle.lpt_pus.specs.declared.failure_code.FailureCode.{FailureCode}
+use Rattle.lpt_pus.specs.declared.failure_code.FailureCode.TheVariants.{UnknownRequest, MalformedBody, UnknownMemory, OutOfRange, WrongChecksum, ReplyTooLong, NoFreeIdentifier, TooManyOpen}
 use Rattle.lpt_pus.specs.declared.request.RequestId.{RequestId}
+use Rattle.lpt_pus.specs.Codes.{number_of}
 use Rattle.lpt_pus.specs.Numbers.{long_at}
 use Rattle.lpt_verify.specs.declared.report.Report.{Report}
 use Rattle.lpt_verify.specs.Reading.{is_failure, is_success, report_at, report_in}
 use Rattle.lpt_failures.specs.declared.notice.FailureNotice.TheVariants.{Code, Unread}
 use Rattle.lpt_failures.specs.declared.reading.RequestReport.{RequestReport}
-use Rattle.lpt_failures.specs.Failures.{any_report_in, as_own, as_success, failure_of, fails, has_code, notice_in, success_of}
+use Rattle.lpt_failures.specs.Failures.{any_report_in, as_own, as_success, failure_of, fails, has_code, notice_in, notice_of, success_of}
 
 -- ---- subtypes
 
@@ -49,7 +52,7 @@ both false b one two = absurd cc
 own-success : (subtype : ℕ) (body : List ℕ)
     → report_in subtype body ≡ Some (report_at body None)
     → IsTrue (is_success subtype)
-    → any_report_in subtype body ≡ Some (as_own (report_at body None))
+    → any_report_in subtype body ≡ Some (as_own subtype (report_at body None))
 own-success subtype body read success =
     let other : fails subtype ≡ false =
     false_from_ne_true (fails subtype) (no-failure subtype success) in
@@ -59,7 +62,7 @@ own-success subtype body read success =
 own-failure : (subtype : ℕ) (body : List ℕ)
     → IsTrue (is_failure subtype)
     → (length body == 6) ≡ true
-    → any_report_in subtype body ≡ Some (as_own (report_at body (Some (word_at body 4))))
+    → any_report_in subtype body ≡ Some (as_own subtype (report_at body (Some (word_at body 4))))
 own-failure subtype body failure six =
     let long : length body ≡ 6 = eqb-true _ _ six in
     let fits : nat_le 4 (length body) ≡ true = le_true 4 (length body) (omega (arith, long)) in
@@ -69,7 +72,7 @@ own-failure subtype body failure six =
     (both (fails subtype) (nat_le 4 (length body)) (of-failure subtype failure) fits)
     ∙ ap (λ (b : Bool). Some (record {
       request = record { value = long_at body 0 };
-      failure = Some (if b then Code (word_at body 4) else Unread);
+      failure = Some (if b then notice_of subtype (word_at body 4) else Unread);
     })) coded
 
 own-tested : (subtype : ℕ) (body : List ℕ) (r : Report) (success failure : Bool)
@@ -79,16 +82,16 @@ own-tested : (subtype : ℕ) (body : List ℕ) (r : Report) (success failure : B
     → (if success then Some (report_at body None)
     else if failure then Some (report_at body (Some (word_at body 4)))
     else None) ≡ Some r
-    → any_report_in subtype body ≡ Some (as_own r)
+    → any_report_in subtype body ≡ Some (as_own subtype r)
 own-tested subtype body r true failure s_is f_is read is =
     let same : report_at body None ≡ r = cc in
     let parts = and_parts (is_success subtype) (length body == 4) s_is in
-    subst (λ (z : Report). any_report_in subtype body ≡ Some (as_own z)) same
+    subst (λ (z : Report). any_report_in subtype body ≡ Some (as_own subtype z)) same
     (own-success subtype body (read ∙ ap (λ (z : Report). Some z) (sym same)) parts.0)
 own-tested subtype body r false true s_is f_is read is =
     let same : report_at body (Some (word_at body 4)) ≡ r = cc in
     let parts = and_parts (is_failure subtype) (length body == 6) f_is in
-    subst (λ (z : Report). any_report_in subtype body ≡ Some (as_own z)) same
+    subst (λ (z : Report). any_report_in subtype body ≡ Some (as_own subtype z)) same
     (own-failure subtype body parts.0 parts.1)
 own-tested subtype body r false false s_is f_is read is = absurd cc
 
@@ -104,26 +107,41 @@ by-tests subtype body r read = read
 -- a report of this project's form says what it says there
 pub own-read : (subtype : ℕ) (body : List ℕ) (r : Report)
     → report_in subtype body ≡ Some r
-    → any_report_in subtype body ≡ Some (as_own r)
+    → any_report_in subtype body ≡ Some (as_own subtype r)
 own-read subtype body r read =
     own-tested subtype body r (is_success subtype && length body == 4)
     (is_failure subtype && length body == 6) refl refl read (by-tests subtype body r read)
 
+-- each failure code of this service is known in the report in which it sends it
+pub own-code : (code : FailureCode)
+    → notice_of (if nat_le (number_of code) 2 then 2 else 4) (number_of code)
+    ≡ Code (number_of code)
+own-code UnknownRequest = refl
+own-code MalformedBody = refl
+own-code UnknownMemory = refl
+own-code OutOfRange = refl
+own-code WrongChecksum = refl
+own-code ReplyTooLong = refl
+own-code NoFreeIdentifier = refl
+own-code TooManyOpen = refl
+
 -- ---- reports of success
 
-no-code : (code : Option ℕ) → option_map Code code ≡ None → code ≡ None
-no-code None is = refl
-no-code (Some code) is = absurd cc
+no-code : (subtype : ℕ) (code : Option ℕ) → option_map (notice_of subtype) code ≡ None
+    → code ≡ None
+no-code subtype None is = refl
+no-code subtype (Some code) is = absurd cc
 
 -- a report, by its parts
 abbrev with-code : RequestId → Option ℕ → Report
 with-code request code = record { request = request; code = code }
 
-as-own-success : (q : Report) (r : RequestReport) → as_own q ≡ r → r.failure ≡ None
+as-own-success : (subtype : ℕ) (q : Report) (r : RequestReport) → as_own subtype q ≡ r
+    → r.failure ≡ None
     → q ≡ success_of r
-as-own-success q r same none =
+as-own-success subtype q r same none =
     let coded : q.code ≡ None =
-    no-code q.code (ap (λ (z : RequestReport). z.failure) same ∙ none) in
+    no-code subtype q.code (ap (λ (z : RequestReport). z.failure) same ∙ none) in
     ap (with-code q.request) coded
     ∙ ap (λ (z : RequestReport). success_of z) same
 
@@ -152,9 +170,9 @@ success-by subtype body r None read any none =
     ∙ any in
     absurd (not-read (fails subtype && nat_le 4 (length body)) subtype body r none nothing)
 success-by subtype body r (Some q) read any none =
-    let same : as_own q ≡ r =
-    (let two : Some (as_own q) ≡ Some r = sym (own-read subtype body q read) ∙ any in cc) in
-    ap (λ (z : Report). Some z) (as-own-success q r same none)
+    let same : as_own subtype q ≡ r =
+    (let two : Some (as_own subtype q) ≡ Some r = sym (own-read subtype body q read) ∙ any in cc) in
+    ap (λ (z : Report). Some z) (as-own-success subtype q r same none)
 
 -- one that reports no failure is of this project's form
 pub success-read : (subtype : ℕ) (body : List ℕ) (r : RequestReport)

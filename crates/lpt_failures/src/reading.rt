@@ -1,7 +1,7 @@
 //! Reading a report.
 
 ghost use Rattle.std.specs.Prelude.{◌≡◌};
-ghost use Rattle.lpt_failures.specs.Failures.{any_report_in, fails, notice_in};
+ghost use Rattle.lpt_failures.specs.Failures.{any_report_in, fails, is_own, notice_in, notice_of};
 
 use crate::FailureNotice;
 use lpt_pus::RequestId;
@@ -62,8 +62,26 @@ fn notice_in(subtype: u8, body: &[u8]) -> FailureNotice
     ensures { result ≡ notice_in subtype body.now }
 {
     if subtype != PROGRESS && body.len() == ID_AND_CODE {
-        FailureNotice::Code(u16::from_be_bytes([body[4], body[5]]))
+        notice_of(subtype, u16::from_be_bytes([body[4], body[5]]))
     } else {
         FailureNotice::Unread
     }
+}
+
+// What this failure code says in a report of this subtype.
+fn notice_of(subtype: u8, code: u16) -> FailureNotice
+    ensures { result ≡ notice_of subtype code }
+{
+    if is_own(subtype, code) {
+        FailureNotice::Code(code)
+    } else {
+        FailureNotice::Foreign(code)
+    }
+}
+
+// Whether this service reports failures of this code by reports of this subtype.
+fn is_own(subtype: u8, code: u16) -> bool
+    ensures { result ≡ is_own subtype code }
+{
+    (subtype == 2 && 1 <= code && code <= 2) || (subtype == 4 && 3 <= code && code <= 8)
 }

@@ -1,4 +1,5 @@
 pub mod CarryLemmas
+mod OtherLemmas
 mod OverlapLemmas
 pub mod PlaceLemmas
 mod ToldLemmas

@@ -103,6 +103,14 @@ impl Pass {
         &self.asked
     }
 
+    /// The requests, with what became of them, of a pass that is no more.
+    pub fn into_requests(self) -> Vec<Asked>
+        ensures { result.items ≡ self.asked.items }
+    {
+        let Pass { asked, .. } = self;
+        asked
+    }
+
     /// The packet of the request at this place.
     pub fn octets(&self, k: usize) -> &[u8]
         requires { k < length self.now.asked.items }

@@ -1,7 +1,8 @@
 //! What was heard of memories, compared with what they should have, or written.
 
-use crate::errands::{Errand, ErrandKind, Places};
+use crate::errands::Errand;
 use crate::ground_told::Teller;
+use crate::places::{ErrandKind, Places};
 use lpt_command_line::GroundWords;
 use lpt_end_machine::LastingFiles;
 use lpt_ground::dumped_octets;

@@ -3,13 +3,14 @@
 ghost use Rattle.lpt_events.specs.Configs.{IsConfig};
 
 use crate::pieces::Piece;
+use crate::places::{ErrandKind, Places};
 use crate::uplinks::{LONGEST_LOAD, uplink_in};
-use lpt_command_line::{AckFlags, GroundWords, Job};
+use lpt_command_line::{AckFlags, GroundWords, Job, longest_on_link};
 use lpt_events::Config;
-use lpt_ground::{MOST, Pass, Terms, overlap};
+use lpt_ground::{MOST, Pass, Terms};
 use lpt_ground_run::{
-    Area, AreaPlace, Asked, Heads, PlanFault, Read, Uplink, check_each, dump_each, plan_loads,
-    plan_reads, some_done,
+    Area, Asked, Cutting, Heads, PlanFault, Read, Uplink, check_each, done_count, dump_each,
+    plan_loads, plan_reads, some_done,
 };
 use std::alloc::Global;
 
@@ -21,58 +22,15 @@ const START: u8 = 2;
 
 const COMPLETION: u8 = 8;
 
-/// What a request is.
-#[derive(Clone, Copy, PartialEq, Eq)]
-pub enum ErrandKind {
-    /// A load.
-    Load,
-    /// A dump.
-    Dump,
-    /// A check.
-    Check,
-}
-
-/// Which octets requests are of, one behind the other.
+/// Under which sources a run asks.
 #[derive(Clone, Copy)]
-pub struct Places {
-    /// The number of the area, from 0 on.
-    pub area: usize,
-    /// What each of the requests is.
-    pub kind: ErrandKind,
-    /// The memory's identifier.
-    pub memory: u8,
-    /// The address of the first octet.
-    pub address: u32,
-    /// How many octets they are.
-    pub len: u32,
-    /// How many octets each of them is of at most.
-    pub each: u16,
-}
-
-impl Places {
-    /// The requests that are of these octets, of those that begin with them; and those behind.
-    pub fn split<'a>(&self, asked: &'a [Asked]) -> (&'a [Asked], &'a [Asked]) {
-        let many = usize::try_from(self.many()).unwrap_or(usize::MAX);
-        asked.split_at(many.min(asked.len()))
-    }
-
-    // How many requests are of these octets.
-    fn many(&self) -> u64 {
-        u64::from(self.len).div_ceil(u64::from(self.each.max(1)))
-    }
-
-    // Whether some octet is one of these and of others.
-    fn overlaps(&self, other: &Places) -> bool {
-        self.memory == other.memory && overlap(self.range(), other.range())
-    }
-
-    // The same octets of their memory.
-    fn range(&self) -> AreaPlace {
-        AreaPlace {
-            address: self.address,
-            len: self.len,
-        }
-    }
+pub struct Sources {
+    /// The job's own: loads have it in each run of the job.
+    pub first: u16,
+    /// The run's own: what it reads is asked under this one.
+    pub own: u16,
+    /// Whether the job goes on from an earlier run.
+    pub goes_on: bool,
 }
 
 /// What is carried to its end.
@@ -80,6 +38,8 @@ impl Places {
 pub struct Errand {
     /// Which octets the first pass is of, area by area.
     pub places: Vec<Places>,
+    /// How what comes down is cut.
+    pub cutting: Cutting,
     /// The first pass.
     pub first: Pass,
     /// How its one request goes up, if that goes as a large message.
@@ -88,6 +48,14 @@ pub struct Errand {
     pub second: Option<(Vec<Places>, Pass)>,
     // The same of a job that goes on.
     again: Option<(Vec<Places>, Pass)>,
+    /// The path of each area's file, if that stands in a list.
+    pub files: Vec<Option<String>>,
+    /// The first pass asked under the run's own source, if a job of dumps or of checks goes on.
+    pub anew: Option<Pass>,
+    /// How many of the first pass's requests an earlier run settled.
+    pub earlier: usize,
+    // What is done.
+    job: Job,
     // The content that is loaded or checked, area by area.
     areas: Vec<Area>,
 }
@@ -99,6 +67,19 @@ impl Errand {
             Some(area) => area.octets.as_slice(),
             None => &[],
         }
+    }
+
+    /// Whether the packets that settle its requests are kept for the job's next run: those of a
+    /// check aren't, since a check says what the memory has now.
+    pub fn keeps_answers(&self) -> bool {
+        !matches!(self.job, Job::Check)
+    }
+
+    /// Whether something is still asked under the run's own source, if the job goes on: all but a
+    /// dump that has come read the memory.
+    pub fn asks(&self) -> bool {
+        let asked = self.first.requests_asked();
+        !matches!(self.job, Job::Dump) || done_count(asked) < asked.len()
     }
 
     /// If the job goes on from an earlier run, or some loads were completed in one, all octets are
@@ -113,21 +94,21 @@ impl Errand {
     }
 }
 
-/// What these words ask to be carried to its end under this source, of these areas.
+/// What these words ask to be carried to its end under these sources, of these areas.
 ///
 /// Errors: as of `plan_loads`, `dump_each` and `check_each`.
 pub fn errand_of(
     alloc: Global,
     config: &Config,
     words: &GroundWords<'_>,
-    source: u16,
+    sources: Sources,
     pieces: Vec<Piece>,
 ) -> Result<Errand, PlanFault>
     requires { IsConfig config.now }
 {
     let heads = Heads {
         apid: config.apid,
-        source,
+        source: sources.first,
         count: words.count.min(LAST_COUNT),
         flags: flags_of(words.job).ok_or(PlanFault::Memory)?,
     };
@@ -135,20 +116,55 @@ pub fn errand_of(
     let places = all_places(alloc, words, part, &pieces)?;
     let verified = places_read(alloc, words, part, &places, &pieces, false)?;
     let looked_at = places_read(alloc, words, part, &places, &pieces, words.kept.is_some())?;
-    let areas = areas_of(alloc, pieces)?;
+    let (areas, files) = contents_of(alloc, pieces)?;
     let asked = all_asked(alloc, &heads, &places, &areas)?;
-    let second = reading(alloc, &heads, words, verified, asked.len())?;
-    let again = reading(alloc, &heads, words, looked_at, asked.len())?;
+    let own = heads_under(&heads, sources.own);
+    let second = reading(alloc, &own, words, verified, asked.len())?;
+    let again = reading(alloc, &own, words, looked_at, asked.len())?;
+    let anew = asked_anew(alloc, &own, words, sources, &places)?;
     let uplink = uplink_in(alloc, config, words, &heads, &asked)?;
     let first = Pass::new(terms_of(&heads, tries_of(words, uplink.is_some())), asked);
     Ok(Errand {
         places,
+        cutting: Cutting {
+            longest: longest_on_link(words.longest, config.part_size),
+            resumes: words.resync,
+        },
         first,
         uplink,
         second,
         again,
+        files,
+        anew,
+        earlier: 0,
+        job: words.job,
         areas,
     })
+}
+
+// The same heads under this source.
+fn heads_under(heads: &Heads, source: u16) -> Heads {
+    Heads {
+        apid: heads.apid,
+        source,
+        count: heads.count,
+        flags: heads.flags,
+    }
+}
+
+// The pass of these octets under these heads, if a job of dumps or of checks goes on.
+fn asked_anew(
+    alloc: Global,
+    heads: &Heads,
+    words: &GroundWords<'_>,
+    sources: Sources,
+    places: &[Places],
+) -> Result<Option<Pass>, PlanFault> {
+    if !sources.goes_on || matches!(words.job, Job::Load { .. }) {
+        return Ok(None);
+    }
+    let asked = all_asked(alloc, heads, places, &[])?;
+    Ok(Some(Pass::new(terms_of(heads, words.tries), asked)))
 }
 
 /// The first two areas of these that share an octet.
@@ -308,20 +324,25 @@ fn places_read(
     Ok(all)
 }
 
-// The contents, each with its address. The only error is out of memory.
-fn areas_of(alloc: Global, pieces: Vec<Piece>) -> Result<Vec<Area>, PlanFault> {
-    let mut areas = Vec::new(alloc);
+// The contents, each with its address, and the paths of their files. The only error is out of
+// memory.
+fn contents_of(
+    alloc: Global,
+    pieces: Vec<Piece>,
+) -> Result<(Vec<Area>, Vec<Option<String>>), PlanFault> {
+    let (mut areas, mut files) = (Vec::new(alloc), Vec::new(alloc));
     for piece in pieces {
         let Piece {
             address,
             octets,
+            file,
             ..
         } = piece;
-        if areas.push(Area { address, octets }).is_err() {
+        if areas.push(Area { address, octets }).is_err() || files.push(file).is_err() {
             return Err(PlanFault::Memory);
         }
     }
-    Ok(areas)
+    Ok((areas, files))
 }
 
 // The pass that reads these octets behind so many loads, if there are any.

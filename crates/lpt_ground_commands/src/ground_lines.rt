@@ -28,21 +28,55 @@ pub enum Became {
     UnlikeFrom,
 }
 
-/// What became of these octets. The only error is out of memory.
+/// What became of these octets, and of which file of a list they are, if they are of one. The only
+/// error is out of memory.
 pub fn became_line(
     alloc: Global,
     json: bool,
     became: Became,
     stretch: Stretch,
+    file: Option<&str>,
 ) -> Result<String, AllocError> {
+    let line = if json {
+        became_object(alloc, became, stretch)?
+    } else {
+        became_words(alloc, became, stretch)?
+    };
+    let Some(file) = file else {
+        return Ok(line);
+    };
+    let line = line.as_str();
+    if !json {
+        return format!(in alloc; "{line} of {file}");
+    }
+    let front = line.strip_suffix('}').unwrap_or(line);
+    let name = json_text(alloc, file)?;
+    format!(in alloc; "{front},\"file\":\"{name}\"}}")
+}
+
+// A text as it stands in quotation marks. The only error is out of memory.
+fn json_text(alloc: Global, text: &str) -> Result<String, AllocError> {
+    let mut quoted = String::new(alloc);
+    for letter in text.chars() {
+        if letter.is_control() {
+            let number = u32::from(letter);
+            quoted.write(format_args!("\\u{number:04x}"))?;
+        } else if letter == '"' || letter == '\\' {
+            quoted.write(format_args!("\\{letter}"))?;
+        } else {
+            quoted.write(format_args!("{letter}"))?;
+        }
+    }
+    Ok(quoted)
+}
+
+// What became of these octets, in words.
+fn became_words(alloc: Global, became: Became, stretch: Stretch) -> Result<String, AllocError> {
     let Stretch {
         memory,
         address,
         octets,
     } = stretch;
-    if json {
-        return became_object(alloc, became, stretch);
-    }
     let word = octets_word(octets as usize);
     match became {
         Became::Open => {
@@ -86,8 +120,8 @@ fn failed_line(
     } = stretch;
     let word = octets_word(octets as usize);
     match notice {
-        FailureNotice::Code(code) => {
-            let why = sentence(code);
+        FailureNotice::Code(code) | FailureNotice::Foreign(code) => {
+            let why = sentence(notice);
             format!(in alloc;
                 "failed {code} {why}: memory {memory} from {address} on, {octets} {word}"
             )
@@ -111,8 +145,8 @@ fn failed_object(
     } = stretch;
     let mut text = format!(in alloc; "{{\"state\":\"failed\",")?;
     match notice {
-        FailureNotice::Code(code) => {
-            let why = sentence(code);
+        FailureNotice::Code(code) | FailureNotice::Foreign(code) => {
+            let why = sentence(notice);
             text.write(format_args!("\"code\":{code},\"reason\":\"{why}\","))?;
         }
         FailureNotice::Unread => text.push_str("\"reason\":\"code not read\",")?,
@@ -131,28 +165,28 @@ fn unlike_line(alloc: Global, stretch: Stretch) -> Result<String, AllocError> {
     format!(in alloc; "differs: memory {memory}, somewhere in addresses {address}-{last}")
 }
 
-// What a failure code says.
-fn sentence(code: u16) -> &'static str {
-    match code {
-        1 => "unknown service or subtype",
-        2 => "malformed body",
-        3 => "unknown memory",
-        4 => "out of range",
-        5 => "wrong checksum",
-        6 => "reply too long",
-        7 => "no free identifier",
-        8 => "too many open",
+// What a failure code says: nothing that is known, if it isn't this service's own.
+fn sentence(notice: FailureNotice) -> &'static str {
+    match notice {
+        FailureNotice::Code(1) => "unknown service or subtype",
+        FailureNotice::Code(2) => "malformed body",
+        FailureNotice::Code(3) => "unknown memory",
+        FailureNotice::Code(4) => "out of range",
+        FailureNotice::Code(5) => "wrong checksum",
+        FailureNotice::Code(6) => "reply too long",
+        FailureNotice::Code(7) => "no free identifier",
+        FailureNotice::Code(8) => "too many open",
         _ => "unknown code",
     }
 }
 
-/// How a pass of so many requests ended, of which so much was counted, and whether all were
-/// completed. The only error is out of memory.
+/// How a pass of so many requests ended, of which an earlier run settled so many and so much was
+/// counted, and whether all were completed. The only error is out of memory.
 pub fn done_line(
     alloc: Global,
     json: bool,
     noun: &str,
-    many: usize,
+    (many, earlier): (usize, usize),
     counts: RunCounts,
     done: bool,
 ) -> Result<String, AllocError> {
@@ -160,7 +194,7 @@ pub fn done_line(
     if json {
         return format!(in alloc;
             "{{\"end\":\"{noun}\",\"completed\":{done},\"requests\":{many},\"packets\":{put},\
-             \"rounds\":{rounds},\"came\":{came}}}"
+             \"rounds\":{rounds},\"came\":{came},\"earlier\":{earlier}}}"
         );
     }
     let s = if many == 1 { "" } else { "s" };
@@ -169,23 +203,50 @@ pub fn done_line(
     format!(in alloc; "{many} {noun}{s} completed: {put} {packets}, {rounds} {word}")
 }
 
-/// Where what comes down ended, before its end or within a packet. The only error is out of memory.
-pub fn halt_line(
+/// That so many of so many answers of dumps came to an earlier run. The only error is out of
+/// memory.
+pub fn earlier_line(alloc: Global, earlier: usize, many: usize) -> Result<String, AllocError> {
+    let answers = if many == 1 { "answer" } else { "answers" };
+    let are = if earlier == 1 { "is" } else { "are" };
+    format!(in alloc; "{earlier} of {many} {answers} {are} of an earlier run")
+}
+
+/// At which octet no packet begins, so that what comes down ended there. The only error is out of
+/// memory.
+pub fn stray_line(alloc: Global, json: bool, place: u64) -> Result<String, AllocError> {
+    if json {
+        return format!(in alloc; "{{\"state\":\"no packet\",\"octet\":{place}}}");
+    }
+    format!(in alloc; "octet {place}: no packet begins there")
+}
+
+/// That what comes down ended inside a packet, which begins at this octet, and has so many octets
+/// if its header has come whole. The only error is out of memory.
+pub fn within_line(
     alloc: Global,
     json: bool,
     place: u64,
-    is_within: bool,
+    len: Option<usize>,
 ) -> Result<String, AllocError> {
-    if json {
-        let state = if is_within { "cut" } else { "no packet" };
-        return format!(in alloc; "{{\"state\":\"{state}\",\"octet\":{place}}}");
+    match (json, len) {
+        (true, Some(len)) => {
+            format!(in alloc; "{{\"state\":\"cut\",\"octet\":{place},\"octets\":{len}}}")
+        }
+        (true, None) => format!(in alloc; "{{\"state\":\"cut\",\"octet\":{place}}}"),
+        (false, Some(len)) => {
+            format!(in alloc; "inside a packet of {len} octets since octet {place}")
+        }
+        (false, None) => format!(in alloc; "inside a packet's header since octet {place}"),
     }
-    let why = if is_within {
-        "the last packet isn't whole"
-    } else {
-        "no packet begins there"
-    };
-    format!(in alloc; "octet {place}: {why}")
+}
+
+/// That for so many milliseconds nothing was read of what goes up. The only error is out of
+/// memory.
+pub fn unread_line(alloc: Global, json: bool, millis: u128) -> Result<String, AllocError> {
+    if json {
+        return format!(in alloc; "{{\"state\":\"not read\",\"milliseconds\":{millis}}}");
+    }
+    format!(in alloc; "given up: nothing that goes up was read for {millis} ms")
 }
 
 /// How many octets were passed over, at least one. The only error is out of memory.

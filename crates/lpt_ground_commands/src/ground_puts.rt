@@ -97,6 +97,11 @@ impl<K: Sink + Drop> Noted<K> {
     }
 
     /// What is written to.
+    pub fn out(&self) -> &K {
+        &self.out
+    }
+
+    /// The same, once nothing is put any more.
     pub fn into_out(self) -> K {
         let Noted { out, puts: _ } = self;
         out

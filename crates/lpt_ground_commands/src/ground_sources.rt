@@ -1,17 +1,16 @@
-//! A pass's own source.
+//! A run's own source.
 
-use crate::ground_notes::source_at;
 use lpt_command_line::{GroundWords, SourceWords};
-use lpt_end_machine::{EndMachine, LastingFiles, lock_file};
+use lpt_end_machine::{EndMachine, LastingFiles, awaited_lock};
 use lpt_io::{Failure, Fault, Machine, file_at, tell_text};
 use std::fs;
 use std::io::ErrorKind;
 
-/// The pass's own source: the one that is given, that of the job that goes on, or the next one,
-/// which is noted on the disk before it is used. None if each one had its pass, and that is told.
+/// The run's own source: the one that is given, or the next one, which is noted on the disk before
+/// it is used. None if each one had its pass, and that is told.
 ///
 /// Errors: `Read` if a file can't be read, or names no source; `Write` if the source can't be
-/// noted, or another process takes one; `Memory`.
+/// noted, or another process holds the file's lock for longer than 10 seconds; `Memory`.
 pub fn source_of(
     rt: &impl EndMachine,
     process: u32,
@@ -21,12 +20,7 @@ pub fn source_of(
         SourceWords::Given(source) => return Ok(Some(source)),
         SourceWords::Next(path) => path,
     };
-    if let Some(job) = words.kept {
-        if let Some(source) = source_at(rt, job)? {
-            return Ok(Some(source));
-        }
-    }
-    let lock = lock_file(rt, process, path)?;
+    let lock = awaited_lock(rt, process, path)?;
     let taken = next_source(rt, path);
     drop(lock);
     taken

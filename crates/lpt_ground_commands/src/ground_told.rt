@@ -1,10 +1,11 @@
 //! What standard error is told of a pass: of its rounds, and at its end.
 
-use crate::errands::{ErrandKind, Places};
 use crate::ground_lines::{
-    Became, Stretch, became_line, done_line, halt_line, round_line, strays_line, unkept_line,
+    Became, Stretch, became_line, done_line, earlier_line, round_line, stray_line, strays_line,
+    unkept_line, unread_line, within_line,
 };
-use lpt_command_line::{GroundWords, SourceWords};
+use crate::places::{ErrandKind, Places};
+use lpt_command_line::{GroundWords, Job, SourceWords};
 use lpt_ground::{Pass, checks_agree};
 use lpt_ground_run::{Asked, GroundRun, Halt, Outcome, RunCounts, runs_of};
 use lpt_io::{Voice, tell_text};
@@ -39,22 +40,40 @@ impl Teller {
         }
     }
 
-    // Tells what became of some octets.
-    fn tell_became(self, rt: &(impl Eprint + AllocGlobal), became: Became, stretch: Stretch) {
-        self.tell_as_line(rt, became_line(rt.alloc(), self.json, became, stretch));
+    // Tells what became of some octets, and of which file of a list they are, if they are of one.
+    fn tell_became(
+        self,
+        rt: &(impl Eprint + AllocGlobal),
+        became: Became,
+        stretch: Stretch,
+        file: Option<&str>,
+    ) {
+        self.tell_as_line(
+            rt,
+            became_line(rt.alloc(), self.json, became, stretch, file),
+        );
     }
 
     /// Tells where what comes down has ended, unless it is at its own end.
     pub fn tell_halt(self, rt: &(impl Eprint + AllocGlobal), halt: Option<Halt>) {
-        let (place, is_within) = match halt {
-            Some(Halt::Stray(place)) => (place, false),
-            Some(Halt::Within(place)) => (place, true),
+        let line = match halt {
+            Some(Halt::Stray(place)) => stray_line(rt.alloc(), self.json, place),
+            Some(Halt::Within(place, len)) => within_line(rt.alloc(), self.json, place, len),
             Some(Halt::End | Halt::Closed) | None => return,
         };
         if !self.json {
             self.voice.clear(rt);
         }
-        self.tell_as_line(rt, halt_line(rt.alloc(), self.json, place, is_within));
+        self.tell_as_line(rt, line);
+    }
+
+    /// Tells that a pass is given up, since for so many milliseconds nothing was read of what goes
+    /// up.
+    pub fn tell_unread(self, rt: &(impl Eprint + AllocGlobal), millis: u128) {
+        if !self.json {
+            self.voice.clear(rt);
+        }
+        self.tell_as_line(rt, unread_line(rt.alloc(), self.json, millis));
     }
 
     /// Tells how many octets were passed over, if some were.
@@ -90,13 +109,14 @@ impl Teller {
         }
     }
 
-    /// Tells what became of the requests of a pass at its end, of which so much was counted.
+    /// Tells what became of the requests of a pass at its end, by their octets and the files of
+    /// these that stand in a list. An earlier run settled so many of them; so much was counted.
     pub fn tell_end(
         self,
         rt: &(impl Eprint + AllocGlobal),
         words: &GroundWords<'_>,
-        places: &[Places],
-        pass: &Pass,
+        (places, files): (&[Places], &[Option<String>]),
+        (pass, earlier): (&Pass, usize),
         counts: RunCounts,
     ) {
         if !self.json {
@@ -106,7 +126,7 @@ impl Teller {
         let mut open = false;
         for one in places {
             let (asked, behind) = one.split(rest);
-            open = self.tell_open(rt, one, asked) || open;
+            open = self.tell_open(rt, one, file_of(files, one.area), asked) || open;
             rest = behind;
         }
         if open && !self.json {
@@ -114,20 +134,24 @@ impl Teller {
         }
         if self.voice.tells() || open {
             let noun = noun_of(places);
-            let text = done_line(
-                rt.alloc(),
-                self.json,
-                noun,
-                pass.requests_asked().len(),
-                counts,
-                !open,
-            );
+            let many = pass.requests_asked().len();
+            let text = done_line(rt.alloc(), self.json, noun, (many, earlier), counts, !open);
             self.tell_as_line(rt, text);
+        }
+        if earlier != 0 && self.voice.tells() && !self.json && matches!(words.job, Job::Dump) {
+            let many = pass.requests_asked().len();
+            tell_text(rt, earlier_line(rt.alloc(), earlier, many));
         }
     }
 
     // Tells which of these requests weren't completed, and whether there are any.
-    fn tell_open(self, rt: &(impl Eprint + AllocGlobal), places: &Places, asked: &[Asked]) -> bool {
+    fn tell_open(
+        self,
+        rt: &(impl Eprint + AllocGlobal),
+        places: &Places,
+        file: Option<&str>,
+        asked: &[Asked],
+    ) -> bool {
         let Ok(runs) = runs_of(rt.alloc(), asked) else {
             return true;
         };
@@ -136,7 +160,7 @@ impl Teller {
         for run in &runs {
             if let Some(became) = open_as(run) {
                 open = true;
-                self.tell_became(rt, became, stretch_of(places, from, run.count));
+                self.tell_became(rt, became, stretch_of(places, from, run.count), file);
             }
             from = run.count.saturating_add(from);
         }
@@ -160,7 +184,8 @@ impl Teller {
         for one in asked {
             let (front, behind) = rest.split_at(one.awaits.checked_len().min(rest.len()));
             if !one.fate.holds_checksum(front) {
-                self.tell_became(rt, Became::Unlike, behind_of(places, from, front.len()));
+                let stretch = behind_of(places, from, front.len());
+                self.tell_became(rt, Became::Unlike, stretch, None);
             }
             from = front.len().saturating_add(from);
             rest = behind;
@@ -182,8 +207,17 @@ impl Teller {
             return content.len() == octets.len();
         };
         let behind = content.len().saturating_sub(first);
-        self.tell_became(rt, Became::UnlikeFrom, behind_of(places, first, behind));
+        let stretch = behind_of(places, first, behind);
+        self.tell_became(rt, Became::UnlikeFrom, stretch, None);
         false
+    }
+}
+
+// The path of the file of the area of this number, if it stands in a list.
+fn file_of(files: &[Option<String>], area: usize) -> Option<&str> {
+    match files.get(area) {
+        Some(Some(file)) => Some(file.as_str()),
+        _ => None,
     }
 }
 
@@ -281,6 +315,11 @@ fn next_text(alloc: Global, words: &GroundWords<'_>) -> Result<String, AllocErro
             format!(in alloc; "the next pass needs another --source")
         }
         (None, SourceWords::Next(_)) => format!(in alloc; "the same command begins another pass"),
-        (Some(path), _) => format!(in alloc; "the same command goes on from {path}"),
+        (Some(path), SourceWords::Given(_)) => {
+            format!(in alloc; "the same command with another --source goes on from {path}")
+        }
+        (Some(path), SourceWords::Next(_)) => {
+            format!(in alloc; "the same command goes on from {path}")
+        }
     }
 }

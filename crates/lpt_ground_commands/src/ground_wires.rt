@@ -1,16 +1,21 @@
 //! What a pass hears and writes.
 
 use crate::ground_notes::GroundNotes;
+use lpt_command_line::GroundWords;
 use lpt_end_machine::{EndMachine, PlainMachine};
-use lpt_ground_run::{HearFault, Hearing, Terms};
+use lpt_ground_run::{Cutting, HearFault, Hearing, Terms, TimedWriter};
 use lpt_io::{Failure, Fault, Watched};
 use lpt_text::{FromStd, Source, StreamFault, flush_out};
-use std::fs::OpenOptions;
-use std::io::{self, Printer, Write};
-use std::rt::Files;
+use std::io::{ErrorKind, Write};
 use std::sync::Wait;
 use std::thread::Threads;
-use std::time::Clock;
+use std::time::{Clock, Duration};
+
+/// How standard output is called.
+pub const OUTPUT: &str = "standard output";
+
+/// For so many milliseconds at least it is waited that something of what goes up is read.
+const LEAST_LIMIT: u64 = 10_000;
 
 /// The ear at standard input.
 pub type Ears<R, T> = Hearing<T, GroundNotes<R>>;
@@ -20,19 +25,19 @@ pub type Ears<R, T> = Hearing<T, GroundNotes<R>>;
 pub type Wire<W> = FromStd<Watched<W>>;
 
 /// Hears what comes on standard input, and waits so many milliseconds for reports under these
-/// terms. If it resumes, it goes on past octets with which no packet begins.
+/// terms.
 ///
 /// Errors: `Read` if no thread could be started; `Memory`.
 pub fn hear<R: EndMachine, T: Threads + Wait + Clock + Copy + Drop + Send + 'static>(
     rt: &R,
     threads: &T,
-    resumes: bool,
+    cutting: Cutting,
     wait: u32,
     terms: Terms,
     notes: GroundNotes<R>,
 ) -> Result<Ears<R, T>, Failure> {
     let source = FromStd::new(rt.standard_input());
-    hear_source(rt, threads, source, resumes, wait, terms, notes)
+    hear_source(rt, threads, source, cutting, wait, terms, notes)
 }
 
 /// Hears what comes from this source in the same way.
@@ -42,7 +47,7 @@ pub fn hear_source<R, T, S>(
     rt: &R,
     threads: &T,
     source: S,
-    resumes: bool,
+    cutting: Cutting,
     wait: u32,
     terms: Terms,
     notes: GroundNotes<R>,
@@ -52,7 +57,7 @@ where
     T: Threads + Wait + Clock + Copy + Drop + Send + 'static,
     S: Source + Drop + Send + 'static,
 {
-    match Hearing::begin(threads, rt.alloc(), source, resumes, wait, terms, notes) {
+    match Hearing::begin(threads, rt.alloc(), source, cutting, wait, terms, notes) {
         Ok(ears) => Ok(ears),
         Err(HearFault::Memory) => Err(Failure::from(Fault::Memory)),
         Err(HearFault::NoThread) => {
@@ -62,27 +67,49 @@ where
     }
 }
 
-/// Standard output, to which requests are written.
-pub fn output_wire<R: Print>(rt: &R) -> Wire<Printer<'_, R>> {
-    FromStd::new(Watched::new(io::writer(rt)))
-}
-
-/// The FIFO at this path, to which requests are written.
+/// Where requests are written by a thread of its own: the FIFO of these words, or standard output.
 ///
-/// Errors: `Write` if it can't be opened.
-pub fn fifo_wire<R: Files + AllocGlobal>(rt: &R, path: &str) -> Result<Wire<R::File>, Failure> {
-    let mut options = OpenOptions::new();
-    options.write(true);
-    match options.open(rt, path) {
-        Ok(file) => Ok(FromStd::new(Watched::new(file))),
+/// Errors: `Write` if it can't be opened, or no thread could be started; `Memory`.
+pub fn uplink_wire<R: EndMachine, T: Threads + Wait + Clock + Copy + Drop + Send + 'static>(
+    rt: &R,
+    threads: &T,
+    words: &GroundWords<'_>,
+) -> Result<Wire<TimedWriter<T>>, Failure> {
+    let name = words.up.unwrap_or(OUTPUT);
+    let to = match rt.uplink(words.up) {
+        Ok(to) => to,
         Err(error) => {
-            let place = format!(in rt.alloc(); "{path}: {error}");
+            let place = format!(in rt.alloc(); "{name}: {error}");
+            return Err(Failure::at(Fault::Write, place));
+        }
+    };
+    match TimedWriter::begin(threads, rt.alloc(), to, limit_of(words)) {
+        Ok(writer) => Ok(FromStd::new(Watched::new(writer))),
+        Err(HearFault::Memory) => Err(Failure::from(Fault::Memory)),
+        Err(HearFault::NoThread) => {
+            let place = format!(in rt.alloc(); "no thread could be started");
             Err(Failure::at(Fault::Write, place))
         }
     }
 }
 
-/// Closes what is written to under this name, and gives why a write failed, if one did.
+/// How long it is waited for that something of what goes up is read: as long as the waits are that
+/// may settle nothing, and at least so long that a machine that is busy doesn't end a pass.
+pub fn limit_of(words: &GroundWords<'_>) -> Duration {
+    let waits = u64::from(words.wait).saturating_mul(u64::from(words.tries));
+    Duration::from_millis(waits.max(LEAST_LIMIT))
+}
+
+/// Whether it was waited in vain that something of what goes up is read.
+pub fn is_late<W: Write>(out: &Wire<W>) -> bool {
+    match out.inner().error() {
+        Some(error) => error.kind() == ErrorKind::TimedOut,
+        None => false,
+    }
+}
+
+/// Closes what is written to under this name, and gives why a write failed, if one did for another
+/// reason than that it was late.
 ///
 /// Errors: `Write`.
 pub fn close<W: Write + Drop>(
@@ -91,6 +118,9 @@ pub fn close<W: Write + Drop>(
     name: &str,
 ) -> Result<(), Failure> {
     let mut out = out;
+    if is_late(&out) {
+        return Ok(());
+    }
     let flushed = flush_out(&mut out);
     let failure = match out.inner().error() {
         Some(error) => {

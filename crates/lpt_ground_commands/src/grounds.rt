@@ -4,22 +4,24 @@
 ghost use Rattle.lpt_events.specs.Configs.{IsConfig};
 
 use crate::comparing::{compare_checked, compare_read, write_dumps};
-use crate::errands::{Errand, Places, errand_of, overlap_of};
+use crate::errands::{Errand, errand_of, overlap_of};
 use crate::ground_notes::GroundNotes;
 use crate::ground_puts::{Noted, Puts};
 use crate::ground_sources::source_of;
 use crate::ground_told::{Teller, chart_title, title_of};
-use crate::ground_wires::{Ears, Wire, close, fifo_wire, hear, output_wire};
-use crate::outputs::{check_chart, check_places, check_up, overwritten};
+use crate::ground_wires::{Ears, OUTPUT, Wire, close, hear, is_late, limit_of, uplink_wire};
+use crate::job_files::{JobFront, job_begun, kept_job, sources_of};
+use crate::outputs::{check_places, files_used};
 use crate::pieces::{Piece, pieces_of};
+use crate::places::Places;
 use crate::uplinks::LONGEST_LOAD;
 use lpt_command_line::{GroundWords, Job, SettingWords};
-use lpt_end_machine::{EndMachine, PlainMachine, lock_file};
+use lpt_end_machine::{EndMachine, PlainMachine, lock_file, used_twice};
 use lpt_events::Config;
 use lpt_ground::{End, Pass};
-use lpt_ground_run::{PlanFault, carry_pass, carry_uplink};
+use lpt_ground_run::{Fate, Halt, PlanFault, carry_pass, carry_uplink};
 use lpt_io::{Failure, Fault, Status, Voice, config_of, first_failure, tell_text, word_refused};
-use lpt_text::{Sink, StreamFault};
+use lpt_text::StreamFault;
 use std::io::Write;
 use std::sync::Wait;
 use std::thread::Threads;
@@ -27,26 +29,24 @@ use std::time::Clock;
 
 /// Carries what is asked of a memory to its end, as the process of this number.
 ///
-/// Errors: `Config` if the configuration is refused, or the file of the picture or of the requests
-/// is used otherwise; `Read` if a file or standard input can't be read, or the job's file is
-/// another job's; `Write` if the requests or a file can't be written, and before anything is sent
-/// if there is no place for a file; `Memory`.
-pub fn ground<R: EndMachine, T: Threads + Wait + Clock + Copy + Drop + Send + 'static>(
+/// Errors: `Config` if the configuration is refused; `Read` if a file or standard input can't be
+/// read, or the job's file is another job's; `Write` if the requests or a file can't be written,
+/// and before anything is sent if there is no place for a file; `Memory`.
+pub fn ground<'w, R: EndMachine, T: Threads + Wait + Clock + Copy + Drop + Send + 'static>(
     rt: &R,
     threads: &T,
     process: u32,
     voice: Voice,
-    settings: &SettingWords<'_>,
-    words: &GroundWords<'_>,
+    settings: &SettingWords<'w>,
+    words: &GroundWords<'w>,
 ) -> Result<Status, Failure> {
     let config = config_of(rt, settings)?;
-    check_chart(rt, settings, words, None)?;
-    if let Some(fault) = overwritten(rt, settings, words, None) {
+    let files = files_used(rt.alloc(), settings, words, None)?;
+    if let Some(fault) = used_twice(rt, &files) {
         return Ok(word_refused(rt, rt.alloc(), &fault));
     }
-    check_up(rt, settings, words)?;
     check_places(rt, words)?;
-    let Some(pieces) = pieces_of(rt, words)? else {
+    let Some(pieces) = pieces_of(rt, words, files)? else {
         return Ok(Status::Unreadable);
     };
     let lock = job_lock(rt, process, words)?;
@@ -87,18 +87,19 @@ pub fn job_lock<R: EndMachine>(
     }
 }
 
-/// What is ready to be carried out: the errand, and its title.
+/// What is ready to be carried out: the errand, and what is kept in its job's file.
 #[derive(Drop)]
 pub struct Ready {
     /// The errand.
     pub errand: Errand,
-    /// Its title.
-    pub title: String,
+    /// What is kept, if there is a job's file.
+    pub job: Option<JobFront>,
 }
 
 /// What these words ask to be carried out of these areas. None if it can't be, and why was told.
 ///
-/// Errors: `Read` if a file can't be read; `Write` if the pass's source can't be noted; `Memory`.
+/// Errors: `Read` if a file can't be read, or the job's is another job's; `Config` if an earlier
+/// run of the job asked under the run's source; `Write` if that source can't be noted; `Memory`.
 pub fn ready_of(
     rt: &impl EndMachine,
     process: u32,
@@ -108,10 +109,12 @@ pub fn ready_of(
 ) -> Result<Option<Ready>, Failure>
     requires { IsConfig config.now }
 {
+    let job = kept_job(rt, words)?;
     let Some(source) = source_of(rt, process, words)? else {
         return Ok(None);
     };
-    let errand = match errand_of(rt.alloc(), config, words, source, pieces) {
+    let sources = sources_of(&job, source);
+    let mut errand = match errand_of(rt.alloc(), config, words, sources, pieces) {
         Ok(errand) => errand,
         Err(PlanFault::Memory) => return Err(Failure::from(Fault::Memory)),
         Err(fault) => {
@@ -123,10 +126,8 @@ pub fn ready_of(
         tell_overlap(rt, &one, &other);
         return Ok(None);
     }
-    match title_of(rt.alloc(), words, source, &errand.places) {
-        Ok(title) => Ok(Some(Ready { errand, title })),
-        Err(_) => Err(Failure::from(Fault::Memory)),
-    }
+    let job = job_begun(rt, words, sources, job, &mut errand)?;
+    Ok(Some(Ready { errand, job }))
 }
 
 // Why what is asked can't be carried out.
@@ -164,39 +165,32 @@ fn carry_ready<R: EndMachine, T: Threads + Wait + Clock + Copy + Drop + Send + '
     words: &GroundWords<'_>,
     ready: Ready,
 ) -> Result<Status, Failure> {
-    let Ready { mut errand, title } = ready;
-    let teller = Teller::new(voice, words.json);
-    let notes = GroundNotes::begin(rt, teller, title.as_str(), &mut errand.first, words.kept)?;
+    let Ready { mut errand, job } = ready;
+    let notes = GroundNotes::begin(rt, Teller::new(voice, words.json), job);
     let terms = errand.first.terms();
-    let mut ears = hear(rt, threads, words.resync, words.wait, terms, notes)?;
-    let ended = match words.up {
-        Some(path) => put_to_fifo(rt, &mut ears, words, &mut errand, path),
-        None => {
-            let out = output_wire(rt);
-            put_over(rt, &mut ears, words, &mut errand, out, "standard output")
-        }
-    };
+    let mut ears = hear(rt, threads, errand.cutting, words.wait, terms, notes)?;
+    let ended = put_up(rt, threads, &mut ears, words, &mut errand);
     drop(ears);
     drop(errand);
     ended
 }
 
-// Carries an errand out over the FIFO at this path.
-fn put_to_fifo<R: EndMachine, T: Wait + Clock + Drop>(
+// Carries an errand out over the FIFO of these words, or standard output.
+fn put_up<R: EndMachine, T: Threads + Wait + Clock + Copy + Drop + Send + 'static>(
     rt: &R,
+    threads: &T,
     ears: &mut Ears<R, T>,
     words: &GroundWords<'_>,
     errand: &mut Errand,
-    path: &str,
 ) -> Result<Status, Failure> {
-    let out = fifo_wire(rt, path)?;
-    put_over(rt, ears, words, errand, out, path)
+    let out = uplink_wire(rt, threads, words)?;
+    put_over(rt, ears, words, errand, out, words.up.unwrap_or(OUTPUT))
 }
 
 /// Carries an errand out over what has this name, which is closed if it can be, before what comes
 /// is heard on.
 ///
-/// Errors: as of `ground`.
+/// If nothing of it is read for too long, the errand is given up. Errors: as of `ground`.
 pub fn put_over<R: PlainMachine, T: Wait + Clock + Drop, W: Write + Drop>(
     rt: &R,
     ears: &mut Ears<R, T>,
@@ -245,12 +239,12 @@ fn both(closed: Result<(), Failure>, ended: Result<Status, Failure>) -> Result<S
 }
 
 // Carries an errand out, and tells what became of it.
-fn carry_all<R: PlainMachine, T: Wait + Clock + Drop, K: Sink + Drop>(
+fn carry_all<R: PlainMachine, T: Wait + Clock + Drop, W: Write + Drop>(
     rt: &R,
     ears: &mut Ears<R, T>,
     words: &GroundWords<'_>,
     errand: &mut Errand,
-    out: &mut Noted<K>,
+    out: &mut Noted<Wire<W>>,
 ) -> Result<Status, Failure> {
     let goes_on = ears.notes().goes_on();
     errand.look_again(goes_on);
@@ -259,15 +253,18 @@ fn carry_all<R: PlainMachine, T: Wait + Clock + Drop, K: Sink + Drop>(
         Some(uplink) => carry_uplink(rt.alloc(), uplink, &mut errand.first, ears, out),
         None => carry_pass(&mut errand.first, ears, out),
     };
+    let of_first = (&errand.first, errand.earlier);
+    let late = is_late(out.out());
     tell(
         rt,
         ears,
         words,
-        &errand.places,
-        &errand.first,
+        (errand.places.as_slice(), errand.files.as_slice()),
+        of_first,
+        late,
         &mut out.puts,
     );
-    if !is_done(rt, ears, ended)? {
+    if !is_done(rt, ears, ended, late)? {
         return Ok(Status::Refused);
     }
     match words.job {
@@ -286,21 +283,24 @@ fn status_of(alike: bool) -> Status {
 }
 
 // Reads what was loaded, if that is asked for or the job goes on, and compares it.
-fn verify_load<R: PlainMachine, T: Wait + Clock + Drop, K: Sink + Drop>(
+fn verify_load<R: PlainMachine, T: Wait + Clock + Drop, W: Write + Drop>(
     rt: &R,
     ears: &mut Ears<R, T>,
     words: &GroundWords<'_>,
     errand: &mut Errand,
-    out: &mut Noted<K>,
+    out: &mut Noted<Wire<W>>,
 ) -> Result<Status, Failure> {
     let Some((places, second)) = &mut errand.second else {
         return Ok(Status::Done);
     };
     ears.notes().keep_no_more();
     out.puts.begin(second.requests_asked());
+    ears.hear_under(second.terms());
     let ended = carry_pass(second, ears, out);
-    tell(rt, ears, words, places, second, &mut out.puts);
-    if !is_done(rt, ears, ended)? {
+    let of = (places.as_slice(), errand.files.as_slice());
+    let late = is_late(out.out());
+    tell(rt, ears, words, of, (&*second, 0), late, &mut out.puts);
+    if !is_done(rt, ears, ended, late)? {
         return Ok(Status::Refused);
     }
     let teller = ears.notes().teller();
@@ -311,38 +311,57 @@ fn verify_load<R: PlainMachine, T: Wait + Clock + Drop, K: Sink + Drop>(
     Ok(status_of(alike))
 }
 
-// Tells what became of the requests of a pass, in which this was put.
+// Tells what became of the requests of a pass, by their octets and the files of these. An earlier
+// run settled so many; in this it was put, and whether nothing of that was read for too long.
 fn tell<R: PlainMachine, T: Wait + Clock + Drop>(
     rt: &R,
     ears: &mut Ears<R, T>,
     words: &GroundWords<'_>,
-    places: &[Places],
-    pass: &Pass,
+    (places, files): (&[Places], &[Option<String>]),
+    (pass, earlier): (&Pass, usize),
+    late: bool,
     puts: &mut Puts,
 ) {
     let counts = ears.counts();
-    let halt = ears.halt();
+    let halt = stand_of(ears, pass);
     let teller = ears.notes().teller();
     teller.tell_halt(rt, halt);
-    teller.tell_end(rt, words, places, pass, counts);
+    if late {
+        teller.tell_unread(rt, limit_of(words).as_millis());
+    }
+    teller.tell_end(rt, words, (places, files), (pass, earlier), counts);
     if let Some(charts) = ears.notes().charts() {
         let title = chart_title(rt.alloc(), pass.terms().source, places);
         charts.end_pass(title, counts, puts);
     }
 }
 
-// Whether a pass that ended so is done.
+// Where what comes down has ended, or, if a request still waits, inside which packet it stands.
+fn stand_of<R: PlainMachine, T: Wait + Clock + Drop>(
+    ears: &Ears<R, T>,
+    pass: &Pass,
+) -> Option<Halt> {
+    let asked = pass.requests_asked();
+    match ears.halt() {
+        None if asked.iter().any(|one| matches!(one.fate, Fate::Waiting)) => ears.within(),
+        halt => halt,
+    }
+}
+
+// Whether a pass that ended so is done: it isn't if it was given up since it was late.
 //
 // Errors: why it couldn't go on.
 fn is_done<R: PlainMachine, T: Wait + Clock + Drop>(
     rt: &R,
     ears: &mut Ears<R, T>,
     ended: Result<End, StreamFault>,
+    late: bool,
 ) -> Result<bool, Failure> {
     match ended {
         Ok(end) => Ok(end == End::Done),
         Err(fault) => match ears.notes().take_failure() {
             Some(failure) => Err(failure),
+            None if late => Ok(false),
             None => Err(failure_of(rt, fault)),
         },
     }

@@ -1,12 +1,12 @@
 //! A list of files that are loaded, each to an address of a memory.
 
-use crate::outputs::used_already;
 use crate::pieces::Piece;
-use lpt_command_line::GroundWords;
-use lpt_end_machine::is_same;
+use lpt_end_machine::{Usage, UsedFile, add_file, used_twice};
 use lpt_ground::overlap;
 use lpt_ground_run::AreaPlace;
-use lpt_io::{Failure, Fault, Machine, STANDARD, file_at, read_file, tell_text};
+use lpt_io::{
+    Failure, Fault, Machine, STANDARD, WordFault, file_at, read_file, tell_text, word_refused,
+};
 use lpt_settings::{Reason, Wrong, complain_of_toml, has_only, number, unknown_key};
 use std::alloc::{AllocError, Global};
 use std::rt::Files;
@@ -63,15 +63,15 @@ struct Patch<'t> {
     verify: bool,
 }
 
-/// What the list at this path has loaded, if these words ask for it. None if the list is refused,
-/// after standard error was told where and why.
+/// What the list at this path has loaded, beside which the command uses these files. None if the
+/// list is refused, or one of its files is used otherwise, after standard error was told why.
 ///
 /// Errors: `Read` if the list or one of its files can't be read; `Config` if the list has more than
-/// 1,048,576 octets, or a patch's file is also the one of the picture or of the requests; `Memory`.
+/// 1,048,576 octets; `Memory`.
 pub fn patches_at(
     rt: &impl Machine,
     path: &str,
-    words: &GroundWords<'_>,
+    files: Vec<UsedFile<'_>>,
 ) -> Result<Option<Vec<Piece>>, Failure> {
     let octets = read_file(rt, path)?;
     let text = match str::from_utf8(octets.as_slice()) {
@@ -83,7 +83,7 @@ pub fn patches_at(
         }
     };
     match toml::table_from_str(rt.alloc(), text) {
-        Ok(table) => patches_in(rt, path, words, &table),
+        Ok(table) => patches_in(rt, path, files, &table),
         Err(error) => {
             let Ok(complaint) = complain_of_toml(rt.alloc(), text, &error) else {
                 return Err(Failure::from(Fault::Memory));
@@ -99,13 +99,46 @@ pub fn patches_at(
 fn patches_in(
     rt: &impl Machine,
     path: &str,
-    words: &GroundWords<'_>,
+    files: Vec<UsedFile<'_>>,
     table: &Table,
 ) -> Result<Option<Vec<Piece>>, Failure> {
     let values = match values_in(table) {
         Ok(values) => values,
         Err(flaw) => return Ok(refuse(rt, place_of(rt.alloc(), path, None, flaw))),
     };
+    match twice_with(rt, files, values) {
+        None => pieces_in(rt, path, values),
+        Some(WordFault::Memory) => Err(Failure::from(Fault::Memory)),
+        Some(fault) => {
+            let _ = word_refused(rt, rt.alloc(), &fault);
+            Ok(None)
+        }
+    }
+}
+
+// What is used twice of these files and those of these patches, if something is.
+fn twice_with<'t>(
+    rt: &(impl Files + AllocGlobal),
+    files: Vec<UsedFile<'t>>,
+    values: &'t [Value],
+) -> Option<WordFault<'t>> {
+    let mut files = files;
+    for value in values {
+        if let Ok(patch) = patch_of(value) {
+            if add_file(&mut files, "<LIST>", Some(patch.file), Usage::Read).is_err() {
+                return Some(WordFault::Memory);
+            }
+        }
+    }
+    used_twice(rt, &files)
+}
+
+// What these patches of the list at this path have loaded.
+fn pieces_in(
+    rt: &impl Machine,
+    path: &str,
+    values: &[Value],
+) -> Result<Option<Vec<Piece>>, Failure> {
     let mut pieces = Vec::new(rt.alloc());
     let mut files = Vec::new(rt.alloc());
     for (number, value) in values.iter().enumerate() {
@@ -113,7 +146,6 @@ fn patches_in(
             Ok(patch) => patch,
             Err(flaw) => return Ok(refuse(rt, place_of(rt.alloc(), path, Some(number), flaw))),
         };
-        check_patch(rt, patch.file, words)?;
         let piece = piece_of(rt, patch)?;
         if let Some(why) = fault_of(patch.file, &piece, &files, &pieces) {
             let flaw = flaw_at("file", why);
@@ -124,21 +156,6 @@ fn patches_in(
         }
     }
     Ok(Some(pieces))
-}
-
-// Refuses a picture or requests in a patch's file.
-fn check_patch(
-    rt: &(impl Files + AllocGlobal),
-    file: &str,
-    words: &GroundWords<'_>,
-) -> Result<(), Failure> {
-    match (words.chart, words.up) {
-        (Some(chart), _) if is_same(rt, file, chart) => {
-            Err(used_already(rt, "--chart", chart, "a patch"))
-        }
-        (_, Some(up)) if is_same(rt, file, up) => Err(used_already(rt, "--up", up, "a patch")),
-        _ => Ok(()),
-    }
 }
 
 // Why a file can't be loaded behind others, if it can't.
@@ -284,11 +301,16 @@ fn verify_in(table: &Table) -> Result<bool, Flaw<'_>> {
 // A patch with the octets of its file.
 fn piece_of(rt: &impl Machine, patch: Patch<'_>) -> Result<Piece, Failure> {
     let octets = file_at(rt, patch.file)?;
+    let path = patch.file;
+    let Ok(file) = format!(in rt.alloc(); "{path}") else {
+        return Err(Failure::from(Fault::Memory));
+    };
     Ok(Piece {
         memory: patch.memory,
         address: patch.address,
         len: 0,
         verify: patch.verify,
         octets,
+        file: Some(file),
     })
 }

@@ -2,6 +2,7 @@
 
 use crate::patches::patches_at;
 use lpt_command_line::{AreaWords, GroundWords, Job};
+use lpt_end_machine::UsedFile;
 use lpt_io::{Failure, Fault, Machine, file_at};
 use lpt_packet::Octets;
 
@@ -18,18 +19,21 @@ pub struct Piece {
     pub verify: bool,
     /// What is loaded or checked; nothing of a dump.
     pub octets: Octets,
+    /// The path of its file, if that stands in a list.
+    pub file: Option<String>,
 }
 
-/// The areas of the job that these words ask for. None if the list that has them is refused, and
-/// that was told.
+/// The areas of the job that these words ask for, which uses these files besides those of a list.
+/// None if the list that has them is refused, and that was told.
 ///
 /// Errors: as of `patches_at`.
 pub fn pieces_of(
     rt: &impl Machine,
     words: &GroundWords<'_>,
+    files: Vec<UsedFile<'_>>,
 ) -> Result<Option<Vec<Piece>>, Failure> {
     if let Some(path) = words.list {
-        return patches_at(rt, path, words);
+        return patches_at(rt, path, files);
     }
     let mut pieces = Vec::new(rt.alloc());
     for area in &words.areas {
@@ -52,5 +56,6 @@ fn piece_of(rt: &impl Machine, job: Job, area: &AreaWords<'_>) -> Result<Piece, 
         len: area.len,
         verify: false,
         octets,
+        file: None,
     })
 }

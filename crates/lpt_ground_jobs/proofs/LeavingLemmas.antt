@@ -169,7 +169,7 @@ pub done-leaves : DoneLeavesTheImage
     → AllSuit (sizes_of first) x pieces
     → ((i : ℕ) → i < length x.octets → Reaches x i pieces)
     → AreAlone c first (came_to c first xs).ends.log x terms.source place (messages_of asked)
-    → WerePutOut c first xs (packets_of answers)
+    → WerePutOut c first xs terms (packets_of answers)
     → next_step (come_to terms (pass_begun terms asked) answers) ≡ Stop Done
     → Stands x (came_to c first xs).ends.memories
 done-leaves image c first xs x before terms pieces asked answers place config can known fits apid

@@ -179,8 +179,8 @@ on-the-way = record {
   octets = refl;
 }
 
-put-out : WerePutOut usual usual_memories run (packets_of answers)
-put-out zero o there =
+put-out : WerePutOut usual usual_memories run (terms_of job) (packets_of answers)
+put-out zero o t there is =
     let same : report ≡ o = cc in
     record {
       later = [];
@@ -189,7 +189,7 @@ put-out zero o there =
       on_the_way =
           subst (IsOnTheWay (came_to usual usual_memories run).ends Down) same on-the-way;
     }
-put-out (suc k) o there = absurd cc
+put-out (suc k) o t there is = absurd cc
 
 can : CanMoveAll usual usual_memories run
 unfolding packet_seen spelling checksum octets_in shift_all tc_field tc_verdict command_in tm_field

@@ -71,7 +71,7 @@ DoneLeavesTheAreas =
     → AllByRecursion (IsTask c.apid terms.source first) tasks
     → ArePlans tasks asked
     → (came : CameTo terms (pass_begun terms asked) end old new Done)
-    → WerePutOut c first xs (packets_of came.answers)
+    → WerePutOut c first xs terms (packets_of came.answers)
     → slice_get tasks n ≡ Some t
     → slice_get t.areas k ≡ Some a
     → AllAgree tasks (image_of t.memory a)

@@ -10,6 +10,7 @@ use Rattle.lpt_reported.specs.Images.{Image, Stands}
 use Rattle.lpt_ground.specs.Carrying.{Answer, packets_of}
 use Rattle.lpt_ground_moves.specs.Chains.{WerePutOut, messages_of}
 use Rattle.lpt_c_ground.specs.Calls.{GoesBy, step_of, step_word}
+use Rattle.lpt_c_ground.specs.Jobs.{terms_of}
 use Rattle.lpt_c_ground.specs.Plans.{IsNew}
 use Rattle.lpt_c_ground.specs.declared.grounds.Ground.{Ground}
 use Rattle.lpt_c_ground.specs.declared.jobs.LptJob.{LptJob}
@@ -65,7 +66,7 @@ pub record IsCompleted (c : Config) (first : Contents) (xs : List Move) (j : Lpt
   pub end : Ground
   pub goes : GoesBy answers new end
   pub says : step_word (step_of end) ≡ 3
-  pub put_out : WerePutOut c first xs (packets_of answers)
+  pub put_out : WerePutOut c first xs (terms_of j) (packets_of answers)
 
 -- the packets of its requests
 abbrev pub requests_of : Ground → List (List ℕ)

@@ -7,6 +7,7 @@ use Rattle.lpt_apart.specs.Moves.{Do, Move, came_to, CanMoveAll}
 use Rattle.lpt_apart.specs.Steps.{Plain, Accept, Claim, Commit, Apply}
 use Rattle.lpt_ground.specs.Carrying.{Answer, Came, Nothing, packets_of}
 use Rattle.lpt_ground_moves.specs.Chains.{WerePutOut}
+use Rattle.lpt_c_ground.specs.Jobs.{terms_of}
 use Rattle.lpt_c_ground.specs.Calls.{GoesBy, step_of, step_word}
 use Rattle.lpt_c_ground.specs.Plans.{IsNew}
 use Rattle.lpt_c_ground.specs.declared.grounds.Ground.{Ground}
@@ -68,7 +69,7 @@ pub record IsMet (g new : Ground) : Type 0 where
   pub can : CanMoveAll usual usual_memories run
   pub for_memory : IsForMemory usual usual_memories job (place ∷ [])
   pub says : step_word (step_of new) ≡ 3
-  pub put_out : WerePutOut usual usual_memories run (packets_of answers)
+  pub put_out : WerePutOut usual usual_memories run (terms_of job) (packets_of answers)
   pub alone : AreAlone usual usual_memories (came_to usual usual_memories run).ends.log
       (image_at job (place ∷ []) content 0 place) 7 0 (requests_of g)
 

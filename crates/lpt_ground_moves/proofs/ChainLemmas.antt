@@ -2,6 +2,7 @@
 use Rattle.std.proofs.Common.{◌≡◌, ◌∙◌, refl, sym, ap, subst, ℕ, Bool, true, false, cond, ◌==◌, ◌&&◌, ◌||◌, List, Option, Some, None, ◌⊎◌, inl, inr, arith, if◌then◌else◌, map}
 use Rattle.std.specs.List.{slice_get}
 use Rattle.std.specs.Option.{option_map}
+use Rattle.std.specs.Prelude.{is_some}
 use Rattle.std.proofs.lemmas.Option.{slice_get-map}
 use Rattle.std.proofs.lemmas.Bool.Decides.{nat_tests}
 use Rattle.lpt_packet.specs.declared.direction.Direction.TheVariants.{Down}
@@ -27,10 +28,10 @@ use Rattle.lpt_ground.specs.declared.pass.Step.TheVariants.{Stop}
 use Rattle.lpt_ground.specs.declared.telling.Said.{Said}
 use Rattle.lpt_ground.specs.declared.telling.Said.TheVariants as said
 use Rattle.lpt_ground.specs.Carrying.{Answer, WasTold, come_to, packets_of}
-use Rattle.lpt_ground.specs.Passes.{PassState, next_step}
-use Rattle.lpt_ground.specs.Telling.{addressed_to, is_answer, is_success, report_of, said_by, said_of, said_with}
+use Rattle.lpt_ground.specs.Passes.{PassState, next_step, octets_heard}
+use Rattle.lpt_ground.specs.Telling.{addressed_to, is_answer, is_success, report_of, requests_told, said_by, said_first, said_in, said_of, said_with}
 use Rattle.lpt_ground.proofs.CarryLemmas.{done-told}
-use Rattle.lpt_ground_moves.specs.Chains.{AreLoads, IsLoad, WasPutOut, WerePutOut, messages_of}
+use Rattle.lpt_ground_moves.specs.Chains.{AreLoads, IsLoad, OthersLeaveThePass, WasPutOut, WerePutOut, messages_of}
 
 -- telemetry is a report of start or completion, on this request ID
 record IsCompletion (t : Telemetry) (id : ℕ) : Type 0 where
@@ -160,7 +161,7 @@ heard-one : (c : Config) (first : Contents) (xs : List Move) (terms : Terms) (a 
     → terms.apid ≡ c.apid
     → IsLoad a
     → a.octets ≡ m
-    → WerePutOut c first xs packets
+    → WerePutOut c first xs terms packets
     → WasTold terms a packets
     → (subtype : ℕ) × (r : Report)
     × ((subtype ≡ 3) ⊎ (subtype ≡ 7))
@@ -170,7 +171,7 @@ heard-one c first xs terms a packets m apid load same put w =
     let t = w.tells.report in
     let done = completion terms.starts t a load.awaits_completion w.tells.says in
     let to = reported-for terms w.packet t w.tells.is_report in
-    let out = put w.number w.packet w.is_there in
+    let out = put w.number w.packet t w.is_there w.tells.is_report in
     let read : telemetry_in c.apid w.packet ≡ Some t =
     ap (λ (n : ℕ). telemetry_in n w.packet) (sym apid) ∙ to.is_read in (
       t.subtype,
@@ -212,7 +213,7 @@ pub done-heard : (c : Config) (first : Contents) (xs : List Move) (terms : Terms
     (answers : List Answer)
     → terms.apid ≡ c.apid
     → AreLoads s.asked
-    → WerePutOut c first xs (packets_of answers)
+    → WerePutOut c first xs terms (packets_of answers)
     → next_step (come_to terms s answers) ≡ Stop Done
     → AllHeard c first xs terms.source (messages_of s.asked)
 done-heard c first xs terms s answers apid loads put done k m there =
@@ -221,3 +222,13 @@ done-heard c first xs terms s answers apid loads put done k m there =
     let load = loads k at.0 at.1 in
     heard-one c first xs terms at.0 (packets_of answers) m apid load at.2 put
     (done-told terms s answers done k at.0 at.1 load.waits)
+
+-- ---- what is no report
+
+pub others-leave : OthersLeaveThePass
+unfolding octets_heard said_in
+others-leave terms s o none =
+    ap (λ (m : Option Telemetry). record s {
+      asked = requests_told s.asked o (said_first terms.starts s.asked m);
+      news = is_some (said_first terms.starts s.asked m) || s.news;
+    }) none

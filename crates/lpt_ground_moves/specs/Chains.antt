@@ -1,7 +1,8 @@
 -- From a pass that is done to the spacecraft's memory.
-use Rattle.std.specs.Prelude.{◌≡◌, ℕ, ◌+◌, ◌≤◌, List, ◌++◌, length, map, slice_get, Some}
+use Rattle.std.specs.Prelude.{◌≡◌, ℕ, ◌+◌, ◌≤◌, List, ◌++◌, length, map, slice_get, Some, None}
 use Rattle.lpt_packet.specs.declared.direction.Direction.TheVariants.{Down}
 use Rattle.lpt_pus.specs.Numbers.{long_at}
+use Rattle.lpt_pus.specs.Telemetry.{Telemetry}
 use Rattle.lpt_memory.specs.Memories.{Contents, content_of}
 use Rattle.lpt_events.specs.Configs.{IsConfig}
 use Rattle.lpt_events.specs.declared.config.Config.{Config}
@@ -16,7 +17,8 @@ use Rattle.lpt_ground.specs.declared.asked.Terms.{Terms}
 use Rattle.lpt_ground.specs.declared.pass.End.TheVariants.{Done}
 use Rattle.lpt_ground.specs.declared.pass.Step.TheVariants.{Stop}
 use Rattle.lpt_ground.specs.Carrying.{Answer, come_to, packets_of}
-use Rattle.lpt_ground.specs.Passes.{PassState, next_step}
+use Rattle.lpt_ground.specs.Passes.{PassState, next_step, octets_heard}
+use Rattle.lpt_ground.specs.Telling.{report_of}
 use Rattle.lpt_ground_large.specs.declared.large.Large.{Large}
 use Rattle.lpt_ground_large.specs.Carrying as large
 use Rattle.lpt_ground_large.specs.Uplinks.{Way, next_way}
@@ -42,12 +44,23 @@ pub record WasPutOut (c : Config) (first : Contents) (xs : List Move) (o : List 
   pub are : later ++ earlier ≡ xs
   pub on_the_way : IsOnTheWay (came_to c first earlier).ends Down o
 
--- Each of these packets was.
+-- Each of these packets was that is a report under these terms.
 --
--- Assumed: What ground hears was put out by the spacecraft, before it was heard.
-abbrev pub WerePutOut : Config → Contents → List Move → List (List ℕ) → Type 0
-WerePutOut c first xs packets =
-    (k : ℕ) (o : List ℕ) → slice_get packets k ≡ Some o → WasPutOut c first xs o
+-- Assumed: What ground hears as a report of the pass was put out by the spacecraft, before it was
+-- heard.
+abbrev pub WerePutOut : Config → Contents → List Move → Terms → List (List ℕ) → Type 0
+WerePutOut c first xs terms packets =
+    (k : ℕ) (o : List ℕ) (t : Telemetry)
+    → slice_get packets k ≡ Some o
+    → report_of terms o ≡ Some t
+    → WasPutOut c first xs o
+
+-- what is no report under its terms leaves a pass as it is
+abbrev pub OthersLeaveThePass : Type 0
+OthersLeaveThePass =
+    (terms : Terms) (s : PassState) (o : List ℕ)
+    → report_of terms o ≡ None
+    → octets_heard terms s o ≡ s
 
 -- what was heard of a pass that is done
 abbrev pub DoneWasHeard : Type 0
@@ -56,7 +69,7 @@ DoneWasHeard =
     (answers : List Answer)
     → terms.apid ≡ c.apid
     → AreLoads s.asked
-    → WerePutOut c first xs (packets_of answers)
+    → WerePutOut c first xs terms (packets_of answers)
     → next_step (come_to terms s answers) ≡ Stop Done
     → AllHeard c first xs terms.source (messages_of s.asked)
 
@@ -72,7 +85,7 @@ DoneLeavesTheImage =
     → terms.apid ≡ c.apid
     → AreLoads s.asked
     → IsPass c first (came_to c first xs).ends.log x terms.source place (messages_of s.asked)
-    → WerePutOut c first xs (packets_of answers)
+    → WerePutOut c first xs terms (packets_of answers)
     → next_step (come_to terms s answers) ≡ Stop Done
     → Stands x (came_to c first xs).ends.memories
 
@@ -89,6 +102,6 @@ LargeLeavesTheImage =
     → AreLoads w.of_request.asked
     → IsPass c first (came_to c first xs).ends.log x terms.source place
     (messages_of w.of_request.asked)
-    → WerePutOut c first xs (packets_of answers)
+    → WerePutOut c first xs terms (packets_of answers)
     → next_way l (large.come_to l terms w answers) ≡ Stop Done
     → Stands x (came_to c first xs).ends.memories

@@ -7,7 +7,7 @@ ghost use Rattle.lpt_stream.specs.Takes.{LeavesBy, ReadsBy};
 ghost use Rattle.lpt_ground_run.specs.Halts.{cut_of, is_end, passed_in, Hands, Rises};
 ghost use Rattle.lpt_ground_run.specs.Handing.{not_written, Gains, GainsPart, packets_in};
 
-use crate::halt::{Halt, halt_at, halt_of};
+use crate::halt::{Halt, halt_damaged, halt_of};
 use lpt_packet::Octets;
 use lpt_stream::{Cut, PieceKind, Taker, take_pieces};
 use lpt_text::{FromStd, Sink, Source, StreamFault};
@@ -35,13 +35,28 @@ pub trait Outlet {
         ensures handed { handed self.new ≡ handed self.old }
         ensures strays { Rises (strays self.old) (strays self.new) 1 }
         ensures more { is_open self.new ≡ is_open self.old };
+
+    /// Is told that a damaged packet of so many octets is passed over.
+    fn skip(&mut self, octets: usize)
+        ensures handed { handed self.new ≡ handed self.old }
+        ensures strays { strays self.new ≡ strays self.old }
+        ensures more { is_open self.new ≡ is_open self.old };
+}
+
+/// How what comes down is cut.
+#[derive(Clone, Copy)]
+pub struct Cutting {
+    /// How many octets the longest packet of the link has: no longer length is believed.
+    pub longest: usize,
+    /// Whether it goes on past octets with which no packet begins.
+    pub resumes: bool,
 }
 
 /// Reads a stream to its end, or until no more is taken, and hands over the packets into which it
-/// is cut by the lengths that headers say, each as soon as its last octet has come. It ends at
-/// octets with which no packet begins. If it resumes, it passes over them instead, and goes on
-/// with the next packet that has a right checksum, which may be one within a packet that was
-/// damaged.
+/// is cut, each as soon as nothing that may still come changes it. A packet whose length leads on
+/// to another one, and whose checksum is wrong, is passed over. It ends at octets with which no
+/// packet begins, and at a packet of another version. If it resumes, it passes over them instead,
+/// and goes on where packets follow one another.
 ///
 /// Errors: `Read` if a read failed, or if 2^64 - 1 pieces came; `Memory`. A front part was
 /// handed over.
@@ -49,28 +64,28 @@ pub fn hand_packets<S: Source, O: Outlet>(
     alloc: Global,
     source: &mut S,
     outlet: &mut O,
-    resumes: bool,
+    cutting: Cutting,
 ) -> Result<Halt, StreamFault>
     requires { O.is_open outlet.old ≡ true }
 
     // It answers where it ended: the packets up to there were handed over, in their order.
-    ensures handed { IfOk result (λ halt. ReadsBy (cut_of resumes) (S.remaining source.old)
+    ensures handed { IfOk result (λ halt. ReadsBy (cut_of cutting) (S.remaining source.old)
         (S.remaining source.new) (is_end halt)
-        (Hands resumes 0 (O.is_open outlet.new) halt (O.handed outlet.old) (O.handed outlet.new)
-        (O.strays outlet.old) (O.strays outlet.new))) }
-    ensures leaves { IfErr result (λ _. LeavesBy (cut_of resumes) (S.remaining source.old)
+        (Hands cutting.resumes 0 (O.is_open outlet.new) halt (O.handed outlet.old)
+        (O.handed outlet.new) (O.strays outlet.old) (O.strays outlet.new))) }
+    ensures leaves { IfErr result (λ _. LeavesBy (cut_of cutting) (S.remaining source.old)
         (S.remaining source.new)
         (λ pieces. GainsPart (O.handed outlet.old) (O.handed outlet.new) (packets_in pieces)
-        × Rises (O.strays outlet.old) (O.strays outlet.new) (passed_in resumes pieces))) }
+        × Rises (O.strays outlet.old) (O.strays outlet.new) (passed_in cutting.resumes pieces))) }
     ensures reader { ReadEnds
-        (IsEndlessBy (cut_of resumes) (S.remaining source.old) (S.remaining source.new)) result
+        (IsEndlessBy (cut_of cutting) (S.remaining source.old) (S.remaining source.new)) result
         (S.failed source.old) (S.failed source.new) }
     ensures fault { IfErr result (λ e. (e ≡ StreamFault.Read) ⊎ (e ≡ StreamFault.Memory)) }
 {
     // Nothing is written here.
     let mut out = FromStd::new(Vec::new(alloc));
     let first = Hander {
-        resumes,
+        cutting,
         halt: Halt::End,
     };
     match take_pieces(alloc, 0, source, first, &mut out, outlet) {
@@ -92,8 +107,7 @@ fn not_written(fault: StreamFault) -> StreamFault
 // How far a stream was handed over.
 #[derive(Clone, Copy)]
 struct Hander {
-    // Whether it goes on past octets with which no packet begins.
-    resumes: bool,
+    cutting: Cutting,
     // Where it has ended; at the stream's end, as far as is known yet.
     halt: Halt,
 }
@@ -103,28 +117,24 @@ impl<K: Sink, O: Outlet> Taker<K, O> for Hander {
     ghost use Rattle.lpt_ground_run.specs.Halts.{cut_of, is_end, passed_in, Hands, Rises};
     ghost use Rattle.lpt_ground_run.specs.Handing.{GainsPart, packets_in};
 
-    ghost cut = { λ now. cut_of now.resumes };
+    ghost cut = { λ now. cut_of now.cutting };
 
     ghost is_open = { λ now. is_end now.halt };
 
-    ghost takes = { λ from first now old new pieces. (now.resumes ≡ first.resumes)
-        × Hands first.resumes from (O.is_open new) now.halt (O.handed old) (O.handed new)
+    ghost takes = { λ from first now old new pieces. (now.cutting ≡ first.cutting)
+        × Hands first.cutting.resumes from (O.is_open new) now.halt (O.handed old) (O.handed new)
         (O.strays old) (O.strays new) pieces };
 
     ghost leaves = { λ from first old new pieces.
         GainsPart (O.handed old) (O.handed new) (packets_in pieces)
-        × Rises (O.strays old) (O.strays new) (passed_in first.resumes pieces) };
+        × Rises (O.strays old) (O.strays new) (passed_in first.cutting.resumes pieces) };
 
     ghost writes = { λ from first pieces. [] };
 
     ghost others = { λ e. ⊥ };
 
     fn cut(&self) -> Cut {
-        if self.resumes {
-            Cut::Resumed
-        } else {
-            Cut::Framed
-        }
+        Cut::Resumed(self.cutting.longest)
     }
 
     fn is_open(&self) -> bool {
@@ -141,20 +151,26 @@ impl<K: Sink, O: Outlet> Taker<K, O> for Hander {
         octets: &[u8],
     ) -> Result<Hander, StreamFault> {
         match kind {
-            PieceKind::Damaged => Ok(self),
-            PieceKind::Stray if self.resumes => {
+            PieceKind::Damaged => {
+                lent.skip(octets.len());
+                Ok(Hander {
+                    cutting: self.cutting,
+                    halt: halt_damaged(self.cutting.resumes, place, octets),
+                })
+            }
+            PieceKind::Stray if self.cutting.resumes => {
                 lent.pass();
                 Ok(self)
             }
             PieceKind::Stray => Ok(Hander {
-                resumes: self.resumes,
-                halt: halt_at(place, octets),
+                cutting: self.cutting,
+                halt: Halt::Stray(place),
             }),
             PieceKind::Whole => {
                 let packet = Octets::from_vec(Vec::from_slice(alloc, octets)?);
                 let more = lent.hand(packet);
                 Ok(Hander {
-                    resumes: self.resumes,
+                    cutting: self.cutting,
                     halt: halt_of(more),
                 })
             }

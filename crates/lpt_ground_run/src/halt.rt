@@ -1,7 +1,9 @@
 //! Where the packets of a stream end.
 
 ghost use Rattle.std.specs.Prelude.{◌≡◌};
-ghost use Rattle.lpt_ground_run.specs.Halts.{halt_at, halt_of, is_end};
+ghost use Rattle.lpt_ground_run.specs.Halts.{halt_damaged, halt_of, is_end};
+
+use lpt_stream::{packet_length, whole_length};
 
 /// Where the packets of a stream end.
 #[derive(Clone, Copy, Debug, PartialEq, Eq)]
@@ -10,12 +12,12 @@ pub enum Halt {
     End,
     /// Where no more are taken.
     Closed,
-    /// At the octet of this number, counted from 0: no packet begins there. 2^64 - 1 stands for
-    /// more, too.
+    /// At the octet of this number, counted from 0: no packet begins there, or one of another
+    /// version. 2^64 - 1 stands for more, too.
     Stray(u64),
     /// At its end, within the packet that begins at the octet of this number, counted as for
-    /// `Stray`.
-    Within(u64),
+    /// `Stray`; and how many octets that packet has, if its header has come whole.
+    Within(u64, Option<usize>),
 }
 
 impl Halt {
@@ -25,7 +27,7 @@ impl Halt {
     {
         match self {
             Halt::End => true,
-            Halt::Closed | Halt::Stray(_) | Halt::Within(_) => false,
+            Halt::Closed | Halt::Stray(_) | Halt::Within(_, _) => false,
         }
     }
 }
@@ -37,12 +39,16 @@ pub(crate) fn halt_of(more: bool) -> Halt
     if more { Halt::End } else { Halt::Closed }
 }
 
-// Where it ends at this octet of this place, with which no packet begins.
-pub(crate) fn halt_at(place: u64, octets: &[u8]) -> Halt
-    ensures { result ≡ halt_at place octets.now }
+// Where it ends at a damaged packet of this place: the stream does within it, or, if it doesn't
+// resume, it is of another version.
+pub(crate) fn halt_damaged(resumes: bool, place: u64, octets: &[u8]) -> Halt
+    ensures { result ≡ halt_damaged resumes place octets.now }
 {
-    if octets.first().copied().unwrap_or(0) / 32 == 0 {
-        Halt::Within(place)
+    if whole_length(octets).is_none() {
+        return Halt::Within(place, packet_length(octets));
+    }
+    if resumes || octets.first().copied().unwrap_or(0) / 32 == 0 {
+        Halt::End
     } else {
         Halt::Stray(place)
     }

@@ -6,7 +6,8 @@ ghost use Rattle.lpt_ground_run.specs.Halts.{Rises};
 
 use crate::Halt;
 use crate::counts::RunCounts;
-use crate::cutting::{Outlet, hand_packets};
+use crate::cutting::{Cutting, Outlet, hand_packets};
+use crate::standing::Standing;
 use crossbeam_channel::{Receiver, RecvTimeoutError, Sender, unbounded};
 use lpt_ground::{Asked, Ear, Terms, Waited};
 use lpt_packet::Octets;
@@ -35,13 +36,34 @@ pub trait Notes {
     fn keep(&mut self, counts: RunCounts, asked: &[Asked]) -> bool;
 }
 
+// How far the thread that reads has cut what it read.
+#[derive(Clone, Copy)]
+struct Cuts {
+    // How many octets were passed over, and up to which place all is cut.
+    strays: u64,
+    place: u64,
+    // Whether that is right behind a packet.
+    in_step: bool,
+}
+
+// Nothing is cut yet.
+const BEGUN: Cuts = Cuts {
+    strays: 0,
+    place: 0,
+    in_step: true,
+};
+
 // What the thread that reads hands over.
 #[derive(Drop)]
 enum Came {
-    // A packet, and how many octets were passed over in front of it, since the first.
-    Packet(Octets, u64),
-    // Where the last of them ended, and how many octets were passed over.
-    Halt(Halt, u64),
+    // What it read.
+    Read(Vec<u8>),
+    // A packet, and how far all is cut behind it.
+    Packet(Octets, Cuts),
+    // How far it is behind a damaged packet, or the first octet of several that are passed over.
+    Passed(Cuts),
+    // Where the last of them ended, and how far all is cut.
+    Halt(Halt, Cuts),
     // Why nothing more will come.
     Fault(StreamFault),
 }
@@ -53,25 +75,63 @@ struct Handing<R: Wait + Drop> {
     to: Sender<Came>,
     // Whether somebody takes what is handed over.
     open: bool,
-    // How many octets were passed over.
-    strays: u64,
+    cuts: Cuts,
 }
 
 impl<R: Wait + Drop> Outlet for Handing<R> {
     ghost handed = { λ _. None };
 
-    ghost strays = { λ handing. handing.strays };
+    ghost strays = { λ handing. handing.cuts.strays };
 
     ghost is_open = { λ handing. handing.«open» };
 
     fn hand(&mut self, packet: Octets) -> bool {
-        let came = Came::Packet(packet, self.strays);
+        self.cuts.place = self
+            .cuts
+            .place
+            .saturating_add(packet.as_slice().len() as u64);
+        self.cuts.in_step = true;
+        let came = Came::Packet(packet, self.cuts);
         self.open = self.to.send(&self.rt, came).is_ok();
         self.open
     }
 
     fn pass(&mut self) {
-        self.strays = self.strays.saturating_add(1);
+        self.cuts.strays = self.cuts.strays.saturating_add(1);
+        self.cuts.place = self.cuts.place.saturating_add(1);
+        if self.cuts.in_step {
+            self.cuts.in_step = false;
+            let _ = self.to.send(&self.rt, Came::Passed(self.cuts));
+        }
+    }
+
+    fn skip(&mut self, octets: usize) {
+        self.cuts.place = self.cuts.place.saturating_add(octets as u64);
+        self.cuts.in_step = true;
+        let _ = self.to.send(&self.rt, Came::Passed(self.cuts));
+    }
+}
+
+// A source that hands over what it reads, too.
+#[derive(Drop)]
+struct Overheard<R: Wait + Drop, S: Drop> {
+    rt: R,
+    alloc: Global,
+    to: Sender<Came>,
+    source: S,
+}
+
+impl<R: Wait + Drop, S: Source + Drop> Source for Overheard<R, S> {
+    ghost remaining = { λ overheard. S.remaining overheard.source };
+
+    ghost failed = { λ overheard. S.failed overheard.source };
+
+    fn read(&mut self, buf: &mut [u8]) -> Option<usize> {
+        let given = self.source.read(buf)?;
+        if let Ok(octets) = Vec::from_slice(self.alloc, &buf[..given]) {
+            let _ = self.to.send(&self.rt, Came::Read(octets));
+        }
+        Some(given)
     }
 }
 
@@ -90,6 +150,9 @@ pub struct Hearing<R: Wait + Clock + Drop, N: Notes + Drop> {
     // Where what came ended, if it has, and how many octets were passed over before.
     halt: Option<Halt>,
     strays: u64,
+    // How far it has come, and which length is believed.
+    standing: Standing,
+    longest: usize,
     // What was counted since it was asked last.
     counts: RunCounts,
 }
@@ -105,7 +168,7 @@ impl<R: Threads + Wait + Clock + Copy + Drop + Send + 'static, N: Notes + Drop> 
         rt: &R,
         alloc: Global,
         source: S,
-        resumes: bool,
+        cutting: Cutting,
         wait: u32,
         terms: Terms,
         notes: N,
@@ -113,15 +176,24 @@ impl<R: Threads + Wait + Clock + Copy + Drop + Send + 'static, N: Notes + Drop> 
         let Ok((to, from)) = unbounded(alloc) else {
             return Err(HearFault::Memory);
         };
+        let Ok(other) = to.clone() else {
+            return Err(HearFault::Memory);
+        };
+        let overheard = Overheard {
+            rt: *rt,
+            alloc,
+            to: other,
+            source,
+        };
         let handing = Handing {
             rt: *rt,
             to,
             open: true,
-            strays: 0,
+            cuts: BEGUN,
         };
         let read = move || -> ()
             requires { handing.«open» ≡ true }
-        { read_all(alloc, source, resumes, handing) };
+        { read_all(alloc, overheard, cutting, handing) };
         match Builder::new().spawn(rt, read) {
             Ok(_) => Ok(Hearing {
                 rt: *rt,
@@ -132,6 +204,8 @@ impl<R: Threads + Wait + Clock + Copy + Drop + Send + 'static, N: Notes + Drop> 
                 fault: None,
                 halt: None,
                 strays: 0,
+                standing: Standing::new(alloc),
+                longest: cutting.longest,
                 counts: RunCounts::new(),
             }),
             Err(_) => Err(HearFault::NoThread),
@@ -143,14 +217,14 @@ impl<R: Threads + Wait + Clock + Copy + Drop + Send + 'static, N: Notes + Drop> 
 fn read_all<R: Wait + Drop, S: Source + Drop>(
     alloc: Global,
     source: S,
-    resumes: bool,
+    cutting: Cutting,
     handing: Handing<R>,
 )
     requires { handing.«open» ≡ true }
 {
     let (mut source, mut handing) = (source, handing);
-    let last = match hand_packets(alloc, &mut source, &mut handing, resumes) {
-        Ok(halt) => Came::Halt(halt, handing.strays),
+    let last = match hand_packets(alloc, &mut source, &mut handing, cutting) {
+        Ok(halt) => Came::Halt(halt, handing.cuts),
         Err(fault) => Came::Fault(fault),
     };
     let _ = handing.to.send(&handing.rt, last);
@@ -160,6 +234,13 @@ impl<R: Wait + Clock + Drop, N: Notes + Drop> Hearing<R, N> {
     /// Its notes.
     pub fn notes(&mut self) -> &mut N {
         &mut self.notes
+    }
+
+    /// Waits for reports under these terms from now on.
+    pub fn hear_under(&mut self, terms: Terms)
+        ensures { self.new.terms ≡ terms }
+    {
+        self.terms = terms;
     }
 
     /// Why nothing more will come, if what comes down isn't at its end: a read failed, or memory
@@ -186,23 +267,41 @@ impl<R: Wait + Clock + Drop, N: Notes + Drop> Hearing<R, N> {
         self.strays
     }
 
-    // Takes what came: the packet, or nothing if it is the last.
+    /// The packet within which what came stands, if that isn't at its end.
+    pub fn within(&self) -> Option<Halt> {
+        match (self.halt, self.fault) {
+            (None, None) => self.standing.within(self.longest),
+            _ => None,
+        }
+    }
+
+    // Takes what came: the packet, if it is one.
     fn packet_of(&mut self, came: Came) -> Option<Octets> {
         match came {
-            Came::Packet(octets, strays) => {
-                self.strays = strays;
-                Some(octets)
+            Came::Read(octets) => self.standing.read(octets.as_slice()),
+            Came::Packet(octets, cuts) => {
+                self.take_cuts(cuts);
+                return Some(octets);
             }
-            Came::Halt(halt, strays) => {
-                self.strays = strays;
+            Came::Passed(cuts) => self.take_cuts(cuts),
+            Came::Halt(halt, cuts) => {
+                self.take_cuts(cuts);
                 self.halt = Some(halt);
-                None
             }
-            Came::Fault(fault) => {
-                self.fault = Some(fault);
-                None
-            }
+            Came::Fault(fault) => self.fault = Some(fault),
         }
+        None
+    }
+
+    // Notes how far all is cut.
+    fn take_cuts(&mut self, cuts: Cuts) {
+        self.strays = cuts.strays;
+        self.standing.cut(cuts.place, cuts.in_step);
+    }
+
+    // Whether nothing more comes.
+    fn is_over(&self) -> bool {
+        self.halt.is_some() || self.fault.is_some()
     }
 
     /// What was counted since this was asked last.
@@ -241,7 +340,10 @@ impl<R: Wait + Clock + Drop, N: Notes + Drop> Ear for Hearing<R, N> {
     ghost told = { λ _. None };
 
     fn ready(&mut self) -> Option<Octets> {
-        if let Ok(came) = self.from.try_recv(&self.rt) {
+        for _ in 0..u64::MAX {
+            let Ok(came) = self.from.try_recv(&self.rt) else {
+                break;
+            };
             if let Some(octets) = self.packet_of(came) {
                 self.counts.count_down();
                 return Some(octets);
@@ -261,8 +363,12 @@ impl<R: Wait + Clock + Drop, N: Notes + Drop> Ear for Hearing<R, N> {
                 Err(RecvTimeoutError::Timeout) => return Waited::Quiet,
                 Err(RecvTimeoutError::Disconnected) => return Waited::End,
             };
-            let Some(octets) = self.packet_of(came) else {
+            let packet = self.packet_of(came);
+            if self.is_over() {
                 return Waited::End;
+            }
+            let Some(octets) = packet else {
+                continue;
             };
             self.counts.count_down();
             // What is no report of the pass says nothing of it, and the wait goes on.

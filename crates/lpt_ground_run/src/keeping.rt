@@ -1,6 +1,6 @@
 //! The packets that settled requests, kept from one process to the next.
 
-ghost use Rattle.std.specs.Prelude.{◌≡◌, IfOk};
+ghost use Rattle.std.specs.Prelude.{◌≡◌, IfOk, count_by};
 ghost use Rattle.std.specs.List.{list_any};
 ghost use Rattle.sha2.specs.Sha256.{sha256};
 ghost use Rattle.lpt_ground.specs.Passes.{is_done, state_of};
@@ -67,6 +67,14 @@ pub fn some_done(asked: &[Asked]) -> bool
     ensures { result ≡ list_any is_done asked.now }
 {
     asked.iter().any(|one| was_done(one))
+}
+
+/// How many of these requests a packet settled. Of a pass that has only heard what was kept, they
+/// came in an earlier run.
+pub fn done_count(asked: &[Asked]) -> usize
+    ensures { result ≡ count_by is_done asked.now }
+{
+    asked.iter().filter(|one| was_done(one)).count()
 }
 
 // Whether a packet settled this one.

@@ -1,6 +1,7 @@
 //! A pass in a process: a thread reads what comes down and cuts it into packets, and the pass is
 //! carried by what that thread hands over. So nobody who writes down ever waits for ground, and
-//! what ground puts up is read in turn.
+//! what ground puts up is read in turn. If it isn't, `TimedWriter`, whose thread writes what goes
+//! up, gives up after a while.
 //!
 //! The main type is `Hearing`, an ear at a channel. The first call is `Hearing::begin`, with where
 //! octets come from and with `Notes`, which are told before each round what became of the requests,
@@ -19,15 +20,17 @@ mod keeping;
 pub mod laws;
 mod planning;
 mod runs;
+mod standing;
 mod uplinks;
+mod writing;
 
 pub use carrying::{carry_pass, carry_uplink};
 pub use counts::RunCounts;
-pub use cutting::{Outlet, hand_packets};
+pub use cutting::{Cutting, Outlet, hand_packets};
 pub use halt::Halt;
 pub use heads::Heads;
 pub use hearing::{HearFault, Hearing, Notes};
-pub use keeping::{digest_of, hear_kept, kept_packets, some_done};
+pub use keeping::{digest_of, done_count, hear_kept, kept_packets, some_done};
 pub use lpt_ground::{Asked, End, FailureNotice, Fate, Pass, Terms};
 pub use lpt_ground_large::{Large, Names, Uplink};
 pub use lpt_packet::Octets;
@@ -37,3 +40,4 @@ pub use lpt_text::{Sink, Source, StreamFault};
 pub use planning::{PlanFault, check_each, dump_each, plan_loads, plan_reads};
 pub use runs::{GroundRun, Outcome, runs_of};
 pub use uplinks::plan_uplink;
+pub use writing::TimedWriter;

@@ -1,15 +1,9 @@
 pub mod RestartRows
-pub mod DamageRows
 pub mod JobRows
 pub mod LegalRows
 pub mod Listed
 pub mod ListedReleases
 pub mod ListedSets
-pub mod LossRows
 pub mod PassRows
-pub mod PlainRows
 pub mod Played
-pub mod Rows
-pub mod SharedRows
 pub mod StrictRows
-pub mod TimeRows

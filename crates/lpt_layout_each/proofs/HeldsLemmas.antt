@@ -8,14 +8,14 @@ use Rattle.lpt_carried.specs.declared.name.Name.{Name}
 use Rattle.lpt_carried.specs.declared.reading.Reading.{Reading}
 use Rattle.lpt_carried.specs.declared.skip.Skip.{Skip}
 use Rattle.lpt_carried.specs.Carried.{Named, part_carried, name_of, part_of, same_name}
-use Rattle.lpt_layout_each.specs.declared.course.CourseAs.{CourseAs}
+use Rattle.lpt_layout_each.specs.declared.kept.KeptAs.{KeptAs}
 use Rattle.lpt_layout_each.specs.declared.helds.HeldsAs.{HeldsAs}
 use Rattle.lpt_layout_each.specs.declared.news.NewsAs.{NewsAs}
 use Rattle.lpt_layout_join.specs.Came.{nothing_came}
 use Rattle.lpt_layout_join.specs.Counts.{Counted, all_counted, packet_counted, nothing_counted}
 use Rattle.lpt_layout_join.specs.CountsInside.{counts_shown}
 use Rattle.lpt_layout_each.specs.Eaches.{Course, counts_of, course_held, held_from, news_listed, missing_at, news_from, nothing, step, step_of}
-use Rattle.lpt_layout_each.specs.Helds.{Follows, HoldsEach, IsHeld, Steps, StepsAt}
+use Rattle.lpt_layout_each.specs.Helds.{HoldsEach, IsHeld, IsKept, StepsAt, StepsKept}
 use Rattle.lpt_layout_join.specs.Names.{name_cmp}
 use Rattle.lpt_layout_each.specs.News.{News}
 use Rattle.lpt_layout_each.specs.Streams.{of, events_told, told_by, waiting}
@@ -89,10 +89,10 @@ pub waiting-none : waiting nothing_came ≡ record { count = 0; highest = 0 }
 waiting-none = refl
 
 -- what is kept then at a name
-pub steps-at : {E : Type 0} (n : Name) (m : BTreeMap Name CourseAs) (k : CourseAs)
+pub steps-at : {E : Type 0} (n : Name) (m : BTreeMap Name KeptAs) (k : KeptAs)
     (result : Result (Option NewsAs) E) (c : Course × Option News)
     → get name_cmp m n ≡ Some k
-    → IfOk result (λ news. Steps (k, news) c)
+    → IfOk result (λ news. StepsKept (k, news) c)
     → IfOk result (λ news. StepsAt n m news c)
 steps-at n m k (Ok news) c is h = (k, is, h)
 steps-at n m k (Err e) c is h = tt
@@ -117,12 +117,12 @@ module _ (r : Reading) (any : Bool) (bs : List (List ℕ)) (b : List ℕ) where
       → HoldsEach r any (bs ++ b ∷ []) new
   each-none e old new is same counts h = record {
     each = λ n.
-        subst (λ (t : BTreeMap Name CourseAs).
+        subst (λ (t : BTreeMap Name KeptAs).
         IsHeld (course_held r any n (bs ++ b ∷ [])) (get name_cmp t n))
         (sym same)
         (subst (λ (k : Course). IsHeld k (get name_cmp old.kept n))
         (sym (held-other r any n bs b (ap (part_of n) is))) (h.each n));
-    in_order = subst (λ (t : BTreeMap Name CourseAs). IsOrdered name_cmp t) (sym same) h.in_order;
+    in_order = subst (λ (t : BTreeMap Name KeptAs). IsOrdered name_cmp t) (sym same) h.in_order;
     counts = counts-next old new counts h;
   }
 
@@ -143,13 +143,13 @@ module _ (r : Reading) (any : Bool) (bs : List (List ℕ)) (b : List ℕ) where
         ∙ ap (λ (t : Bool). if t then Some c.piece else None) other
 
     -- a part of this one
-    pub each-part : (old new : HeldsAs) (g : CourseAs) (now : ℕ)
+    pub each-part : (old new : HeldsAs) (g : KeptAs) (now : ℕ)
         → ((n : Name) → same_name name n ≡ false
         → get name_cmp new.kept n ≡ get name_cmp old.kept n)
         → get name_cmp new.kept name ≡ Some g
         → IsOrdered name_cmp new.kept
         → now ≡ missing_at r (counts_of r bs) b
-        → Follows (step r any now (course_held r any name bs) c.piece).0 g
+        → IsKept (step r any now (course_held r any name bs) c.piece).0 g
         → counts_shown new.counts ≡ packet_counted r (counts_shown old.counts) b
         → HoldsEach r any bs old
         → HoldsEach r any (bs ++ b ∷ []) new
@@ -166,13 +166,13 @@ module _ (r : Reading) (any : Bool) (bs : List (List ℕ)) (b : List ℕ) where
               subst (λ (m : Name). IsHeld (course_held r any m (bs ++ b ∷ []))
               (get name_cmp new.kept m))
               (same_name-true name n same)
-              (subst (λ (o : Option CourseAs). IsHeld (course_held r any name (bs ++ b ∷ [])) o)
+              (subst (λ (o : Option KeptAs). IsHeld (course_held r any name (bs ++ b ∷ [])) o)
               (sym some)
-              (subst (λ (k : Course). Follows k g)
+              (subst (λ (k : Course). IsKept k g)
               (ap (λ (i : ℕ). (step r any i (course_held r any name bs) c.piece).0) up_to
               ∙ sym (held-part r any name bs b c.piece its_part)) holds))
           at n false other =
-              subst (λ (o : Option CourseAs). IsHeld (course_held r any n (bs ++ b ∷ [])) o)
+              subst (λ (o : Option KeptAs). IsHeld (course_held r any n (bs ++ b ∷ [])) o)
               (sym (others n other))
               (subst (λ (k : Course). IsHeld k (get name_cmp old.kept n))
               (sym (held-other r any n bs b (no_part n other))) (h.each n))

@@ -7,7 +7,7 @@ use Rattle.lpt_carried.specs.declared.name.Name.{Name}
 use Rattle.lpt_carried.specs.declared.reading.Reading.{Reading}
 use Rattle.lpt_layout_join.specs.Came.{highest}
 use Rattle.lpt_layout_join.specs.Names.{name_cmp}
-use Rattle.lpt_layout_each.specs.declared.course.CourseAs.{CourseAs}
+use Rattle.lpt_layout_each.specs.declared.kept.KeptAs.{KeptAs}
 use Rattle.lpt_layout_each.specs.declared.helds.HeldsAs.{HeldsAs}
 use Rattle.lpt_layout_each.specs.Eaches.{Course, news_left}
 use Rattle.lpt_layout_each.specs.Helds.{HoldsEach}
@@ -41,11 +41,11 @@ yet-next r any bs old new n gets h q k is =
 
 -- what is left is what is left of that name, and of the others
 pub left-split : (r : Reading) (any : Bool) (bs : List (List ℕ)) (old new : HeldsAs) (n : Name)
-    (g : CourseAs)
+    (g : KeptAs)
     → old.kept.entries ≡ (n, g) ∷ new.kept.entries
     → left_yet r any bs old ≡ left_of r any bs n ++ left_yet r any bs new
 left-split r any bs old new n g pops =
-    ap (λ (es : List (Name × CourseAs)). flat_map (left_of r any bs) (keys_of es)) pops
+    ap (λ (es : List (Name × KeptAs)). flat_map (left_of r any bs) (keys_of es)) pops
 
 -- nothing is left of a name of which no part is new
 pub left-none : (n : Name) (c : Course)
@@ -58,4 +58,4 @@ pub left-empty : (r : Reading) (any : Bool) (bs : List (List ℕ)) (g : HeldsAs)
     → g.kept.entries ≡ []
     → left_yet r any bs g ≡ []
 left-empty r any bs g none =
-    ap (λ (es : List (Name × CourseAs)). flat_map (left_of r any bs) (keys_of es)) none
+    ap (λ (es : List (Name × KeptAs)). flat_map (left_of r any bs) (keys_of es)) none

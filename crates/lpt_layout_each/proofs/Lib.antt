@@ -5,11 +5,9 @@ mod FrontLemmas
 pub mod HeldsLemmas
 mod InnerLemmas
 mod KeptLemmas
+mod KeptsLemmas
 pub mod LeftLemmas
 mod OrderLemmas
-mod OwnGoodLemmas
-mod OwnInOrderLemmas
-mod OwnSentLemmas
 mod PartLemmas
 mod RestrictLemmas
 mod RunLemmas

@@ -16,7 +16,6 @@ use Rattle.lpt_carried.specs.declared.name.Name.{Name}
 use Rattle.lpt_carried.specs.declared.reading.Reading.{Reading}
 use Rattle.lpt_carried.specs.Carried.{part_carried, part_of, kind_to}
 use Rattle.lpt_carried.proofs.NameLemmas.{same_name-refl}
-use Rattle.lpt_join.specs.Laws.{HasNumber}
 use Rattle.lpt_layout_join.specs.Counts.{nothing_counted}
 use Rattle.lpt_layout_join.specs.Gathered.{came, carry, is_end, is_part}
 use Rattle.lpt_layout_join.specs.Laws.{IsSplit, part_named}
@@ -26,7 +25,7 @@ use Rattle.lpt_split.specs.Packets.{AreMade, IsMade, packet_of, said_of}
 use Rattle.lpt_split.specs.Splits.{AreNumbers, IsNumber, next_count}
 use Rattle.lpt_layout_each.specs.Eaches.{held_from, news_from, news_left, nothing}
 use Rattle.lpt_layout_each.specs.News.{News, Given}
-use Rattle.lpt_layout_each.specs.Sends.{AllSplitWhole, Belongs, Carries, FirstBeforeLast, IsSentBy, IsSplitWhole, IsWrittenFor, OneBefore, Sends, Split, carriers, packets_of}
+use Rattle.lpt_layout_each.specs.Sends.{AllSplitWhole, Belongs, Carries, FirstBeforeLast, HasNumber, IsSentBy, IsSplitWhole, IsWrittenFor, OneBefore, Sends, Split, carriers, packets_of}
 use Rattle.lpt_layout_each.proofs.SentLemmas.{sent_given}
 
 -- the packet that is made of a part carries it

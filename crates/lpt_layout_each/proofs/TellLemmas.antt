@@ -9,10 +9,10 @@ use Rattle.lpt_carried.specs.declared.name.Name.{Name}
 use Rattle.lpt_carried.specs.declared.reading.Reading.{Reading}
 use Rattle.lpt_layout_join.specs.Came.{highest}
 use Rattle.lpt_carried.specs.Carried.{part_carried, same_name}
-use Rattle.lpt_layout_each.specs.declared.course.CourseAs.{CourseAs}
+use Rattle.lpt_layout_each.specs.declared.kept.KeptAs.{KeptAs}
 use Rattle.lpt_layout_each.specs.declared.helds.HeldsAs.{HeldsAs}
 use Rattle.lpt_layout_each.specs.Eaches.{Course, course_held, news_left, nothing}
-use Rattle.lpt_layout_each.specs.Helds.{Follows, HoldsEach, IsHeld}
+use Rattle.lpt_layout_each.specs.Helds.{HoldsEach, IsHeld, IsKept}
 use Rattle.lpt_layout_join.specs.Names.{name_cmp}
 use Rattle.lpt_layout_each.specs.News.{Event, Hears, HearsPart, News, parts_dropped}
 use Rattle.lpt_layout_each.specs.Streams.{Leaves, events_from, left_of, of, told_by}
@@ -96,7 +96,7 @@ no_some : {A : Type 0} (x : A) → ◌≡◌ {A = Option A} None (Some x) → �
 no_some x h = cc
 
 -- a name at which something is kept is among the keys
-key-there : (n : Name) (es : List (Name × CourseAs)) (g : CourseAs)
+key-there : (n : Name) (es : List (Name × KeptAs)) (g : KeptAs)
     → lookup (is_at (name_cmp n)) es ≡ Some g
     → list_any (same_name n) (keys_of es) ≡ true
 key-there n [] g h = absurd (no_some g h)
@@ -113,11 +113,11 @@ key-there n (e ∷ es) g h = there (is_eq (name_cmp n e.0)) refl h (key-there n 
 
 -- these names were told of, and those that are kept still weren't
 pub record IsLeft (r : Reading) (any : Bool) (bs : List (List ℕ))
-    (first now : BTreeMap Name CourseAs) (heard hears : Option (List Event)) : Type 0 where
+    (first now : BTreeMap Name KeptAs) (heard hears : Option (List Event)) : Type 0 where
   pub names : List Name
   pub keys_are : keys first ≡ names ++ keys now
-  pub holds : (n : Name) (g : CourseAs) → get name_cmp now n ≡ Some g
-      → Follows (course_held r any n bs) g
+  pub holds : (n : Name) (g : KeptAs) → get name_cmp now n ≡ Some g
+      → IsKept (course_held r any n bs) g
   pub told : Hears heard hears (flat_map (left_of r any bs) names)
 
 pub left-first : (r : Reading) (any : Bool) (bs : List (List ℕ)) (g : HeldsAs)
@@ -128,7 +128,7 @@ left-first r any bs g heard h = record {
   names = [];
   keys_are = refl;
   holds =
-      λ n k is. subst (λ (o : Option CourseAs). IsHeld (course_held r any n bs) o) is (h.each n);
+      λ n k is. subst (λ (o : Option KeptAs). IsHeld (course_held r any n bs) o) is (h.each n);
   told = hears-nothing heard;
 }
 
@@ -140,7 +140,7 @@ one_more r any bs names n =
     ∙ ap (λ es. flat_map (left_of r any bs) names ++ es) (append-nil (left_of r any bs n))
 
 pub left-next : (r : Reading) (any : Bool) (bs : List (List ℕ))
-    (first old new : BTreeMap Name CourseAs) (n : Name) (g : CourseAs)
+    (first old new : BTreeMap Name KeptAs) (n : Name) (g : KeptAs)
     (heard hear hears : Option (List Event))
     → IsLeft r any bs first old heard hear
     → old.entries ≡ (n, g) ∷ new.entries
@@ -150,13 +150,13 @@ pub left-next : (r : Reading) (any : Bool) (bs : List (List ℕ))
 left-next r any bs first old new n g heard hear hears h pops gets told = record {
   names = h.names ++ n ∷ [];
   keys_are =
-      h.keys_are ∙ ap (λ (es : List (Name × CourseAs)). h.names ++ keys_of es) pops
+      h.keys_are ∙ ap (λ (es : List (Name × KeptAs)). h.names ++ keys_of es) pops
       ∙ sym (append_assoc h.names (n ∷ []) (keys new));
   holds = λ q k is. h.holds q k (still q k (is_at (name_cmp n) q) (sym (gets q) ∙ is));
   told = subst (Hears heard hears) (sym (one_more r any bs h.names n))
       (hears-more heard hear hears _ _ h.told told);
 } where
-  still : (q : Name) (k : CourseAs) (b : Bool)
+  still : (q : Name) (k : KeptAs) (b : Bool)
       → cond b None (get name_cmp old q) ≡ Some k
       → get name_cmp old q ≡ Some k
   still q k true e = absurd (no_some k e)
@@ -174,24 +174,24 @@ leaves-kept r any bs g each = record {
 } where
   among : (n : Name)
       → left_of r any bs n ≢ []
-      → (o : Option CourseAs)
+      → (o : Option KeptAs)
       → get name_cmp g.kept n ≡ o
       → list_any (same_name n) (keys g.kept) ≡ true
   among n some None is =
-      let nothing_came = subst (λ (o : Option CourseAs). IsHeld (course_held r any n bs) o) is
+      let nothing_came = subst (λ (o : Option KeptAs). IsHeld (course_held r any n bs) o) is
       (each.each n) in
       absurd (some (ap (λ (k : Course). of n (news_left k)) nothing_came ∙ ap (of n) left-nothing))
   among n some (Some k) is = key-there n g.kept.entries k is
 
 pub left-all : (r : Reading) (any : Bool) (bs : List (List ℕ)) (g : HeldsAs)
-    (now : BTreeMap Name CourseAs) (heard hears : Option (List Event))
+    (now : BTreeMap Name KeptAs) (heard hears : Option (List Event))
     → HoldsEach r any bs g
     → IsLeft r any bs g.kept now heard hears
     → now.entries ≡ []
     → (es : List Event) × Leaves r any bs es × Hears heard hears es
 left-all r any bs g now heard hears each h none =
     let all : keys g.kept ≡ h.names =
-    h.keys_are ∙ ap (λ (es : List (Name × CourseAs)). h.names ++ keys_of es) none
+    h.keys_are ∙ ap (λ (es : List (Name × KeptAs)). h.names ++ keys_of es) none
     ∙ append-nil h.names in (
       flat_map (left_of r any bs) (keys g.kept),
       leaves-kept r any bs g each,
@@ -201,7 +201,7 @@ left-all r any bs g now heard hears each h none =
 
 -- and where a front part was told of what is left of the next name
 pub left-part : (r : Reading) (any : Bool) (bs : List (List ℕ)) (g : HeldsAs)
-    (old new : BTreeMap Name CourseAs) (n : Name) (x : CourseAs)
+    (old new : BTreeMap Name KeptAs) (n : Name) (x : KeptAs)
     (heard hear hears : Option (List Event))
     → HoldsEach r any bs g
     → IsLeft r any bs g.kept old heard hear
@@ -211,7 +211,7 @@ pub left-part : (r : Reading) (any : Bool) (bs : List (List ℕ)) (g : HeldsAs)
 left-part r any bs g old new n x heard hear hears each h pops told =
     let left = left_of r any bs in
     let all : keys g.kept ≡ h.names ++ n ∷ keys new =
-    h.keys_are ∙ ap (λ (es : List (Name × CourseAs)). h.names ++ keys_of es) pops in (
+    h.keys_are ∙ ap (λ (es : List (Name × KeptAs)). h.names ++ keys_of es) pops in (
       flat_map left (keys g.kept),
       leaves-kept r any bs g each,
       subst (λ (es : List Event). HearsPart heard hears es)

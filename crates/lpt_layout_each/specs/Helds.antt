@@ -8,11 +8,13 @@ use Rattle.lpt_layout_join.specs.declared.order.Order.{Order}
 use Rattle.lpt_carried.specs.declared.name.Name.{Name}
 use Rattle.lpt_carried.specs.declared.reading.Reading.{Reading}
 use Rattle.lpt_layout_join.specs.Came.{Came, nothing_came}
-use Rattle.lpt_layout_join.specs.CameInside.{Shows}
+use Rattle.lpt_layout_join.specs.CameInside.{IsBlank, Shows}
 use Rattle.lpt_layout_join.specs.CountsInside.{counts_shown}
 use Rattle.lpt_layout_each.specs.declared.course.CourseAs.{CourseAs}
 use Rattle.lpt_layout_each.specs.declared.held.HeldAs.{HeldAs}
 use Rattle.lpt_layout_each.specs.declared.helds.HeldsAs.{HeldsAs}
+use Rattle.lpt_layout_each.specs.declared.kept.Inside.{Inside}
+use Rattle.lpt_layout_each.specs.declared.kept.KeptAs.{KeptAs}
 use Rattle.lpt_layout_each.specs.declared.news.NewsAs.{NewsAs}
 use Rattle.lpt_layout_each.specs.declared.run.RunAs.{RunAs}
 use Rattle.lpt_layout_each.specs.declared.run.RunTurnAs.{RunTurnAs}
@@ -21,6 +23,7 @@ use Rattle.lpt_layout_each.specs.declared.turn.Turn as code
 use Rattle.lpt_layout_each.specs.declared.turn.Turn.TheVariants as turned
 use Rattle.lpt_layout_each.specs.Eaches.{Course, Ends, Goes, Held, Run, RunTurn, Turn, Waits, GivesUp, Gives, alone, held_begun, counts_of, course_held, is_old, more, no_run, nothing, seed}
 use Rattle.lpt_layout_join.specs.Names.{name_cmp}
+use Rattle.lpt_layout_each.specs.Kepts.{course_of}
 use Rattle.lpt_layout_each.specs.News.{News, Unfit, parts_dropped}
 use Rattle.lpt_layout_each.specs.Told.{news_of}
 
@@ -109,14 +112,27 @@ pub record Steps (g : CourseAs × Option NewsAs) (c : Course × Option News) : T
   pub follows : Follows c.0 g.0
   pub tells : option_map news_of g.1 ≡ c.1
 
+-- this is kept while other names' packets come, whatever holds no parts in place of a run of none
+pub record Keeps (c : Course) (k : Inside) : Type 0 where
+  pub new : Shows c.held.new k.rest
+  pub follows : (s : CameAs) → IsBlank s → Follows c (course_of k s)
+
+abbrev pub IsKept : Course → KeptAs → Type 0
+IsKept c g = Keeps c g.inside.value
+
+-- and this is told
+pub record StepsKept (g : KeptAs × Option NewsAs) (c : Course × Option News) : Type 0 where
+  pub keeps : IsKept c.0 g.0
+  pub tells : option_map news_of g.1 ≡ c.1
+
 -- this is kept of the name, or nothing if nothing came
-abbrev pub IsHeld : Course → Option CourseAs → Type 0
+abbrev pub IsHeld : Course → Option KeptAs → Type 0
 IsHeld c None = c ≡ nothing
-IsHeld c (Some g) = Follows c g
+IsHeld c (Some g) = IsKept c g
 
 -- of a name this is kept then, and this is told
-abbrev pub StepsAt : Name → BTreeMap Name CourseAs → Option NewsAs → Course × Option News → Type 0
-StepsAt n m news c = (k : CourseAs) × (get name_cmp m n ≡ Some k) × Steps (k, news) c
+abbrev pub StepsAt : Name → BTreeMap Name KeptAs → Option NewsAs → Course × Option News → Type 0
+StepsAt n m news c = (k : KeptAs) × (get name_cmp m n ≡ Some k) × StepsKept (k, news) c
 
 -- of each name this is kept behind the packets, and their counts
 pub record HoldsEach (r : Reading) (any : Bool) (bs : List (List ℕ)) (g : HeldsAs) : Type 0 where

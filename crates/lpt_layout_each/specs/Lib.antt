@@ -1,9 +1,9 @@
 pub mod Eaches
 pub mod Helds
+pub mod Kepts
 pub mod Laws
 pub mod Lefts
 pub mod News
-pub mod Own
 pub mod Sends
 pub mod Streams
 pub mod Tellers

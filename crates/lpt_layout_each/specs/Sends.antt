@@ -6,7 +6,6 @@ use Rattle.lpt_part.specs.Splitting.{part_count}
 use Rattle.lpt_carried.specs.declared.name.Name.{Name}
 use Rattle.lpt_carried.specs.declared.reading.Reading.{Reading}
 use Rattle.lpt_carried.specs.Carried.{part_carried, part_of}
-use Rattle.lpt_join.specs.Laws.{HasNumber}
 use Rattle.lpt_layout_join.specs.Gathered.{came, carry, is_end}
 use Rattle.lpt_layout_join.specs.Laws.{IsSplit}
 use Rattle.lpt_layout_join.specs.Writes.{unfit}
@@ -81,6 +80,11 @@ pub record Split : Type 0 where
 -- its packets
 abbrev pub packets_of : Name → Split → List (List ℕ)
 packets_of n s = split.packets_of s.writing n.id s.message s.count s.numbers
+
+-- the number is among these
+abbrev pub HasNumber : ℕ → List ℕ → Type 0
+HasNumber n [] = ⊥
+HasNumber n (k ∷ ks) = (k ≡ n) ⊎ HasNumber n ks
 
 -- number 1 comes before this one, or this one isn't there
 abbrev pub OneBefore : ℕ → List ℕ → Type 0

@@ -9,12 +9,11 @@ ghost use Rattle.lpt_layout_join.specs.Came.{Came};
 ghost use Rattle.lpt_layout_join.specs.CameInside.{Shows};
 ghost use Rattle.lpt_layout_each.specs.Eaches as each;
 ghost use Rattle.lpt_layout_each.specs.Helds.{Follows, Holds, IsRun, ShowsSome, Steps};
-ghost use Rattle.lpt_layout_each.specs.Streams.{waiting};
 ghost use Rattle.lpt_layout_each.specs.Told.{news_of};
 
+use crate::NewsAs;
 use crate::held::HeldAs;
 use crate::run::{RunAs, RunTurnAs};
-use crate::{NewsAs, WaitingAs};
 use lpt_carried::Reading;
 use lpt_layout::{Octets, PartAs};
 use lpt_layout_join::{CameAs, unfit};
@@ -49,20 +48,6 @@ impl CourseAs {
             stale: false,
             gave: false,
         }
-    }
-
-    // Whether nothing is left of what came.
-    pub(crate) fn is_empty(&self) -> bool
-        ensures { (c : each.Course) → Follows c self.now → result ≡ each.is_empty c.held.new }
-    {
-        self.held.is_empty()
-    }
-
-    // How much is left.
-    pub(crate) fn waiting(&self) -> WaitingAs
-        ensures { (c : each.Course) → Follows c self.now → result ≡ waiting c.held.new }
-    {
-        self.held.waiting()
     }
 
     // What is left.

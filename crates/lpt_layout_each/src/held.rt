@@ -10,10 +10,9 @@ ghost use Rattle.lpt_layout_join.specs.Came.{Came, highest, message_of, nothing_
 ghost use Rattle.lpt_layout_join.specs.CameInside.{Shows};
 ghost use Rattle.lpt_layout_each.specs.Eaches as each;
 ghost use Rattle.lpt_layout_each.specs.Helds.{Holds, IsTurnOfAll, ShowsSome, Takes};
-ghost use Rattle.lpt_layout_each.specs.Streams.{waiting};
 
+use crate::NewsAs;
 use crate::turn::{Turn, alone, turn_with};
-use crate::{NewsAs, WaitingAs};
 use lpt_carried::Reading;
 use lpt_layout::{Octets, PartAs};
 use lpt_layout_join::CameAs;
@@ -53,16 +52,6 @@ impl HeldAs {
         ensures { (c : Came) → Shows c self.now.rest → result ≡ (highest c.parts == 0) }
     {
         self.rest.highest() == 0
-    }
-
-    // How much is left.
-    pub(crate) fn waiting(&self) -> WaitingAs
-        ensures { (c : Came) → Shows c self.now.rest → result ≡ waiting c }
-    {
-        WaitingAs {
-            count: self.rest.count(),
-            highest: self.rest.highest(),
-        }
     }
 
     // What is left.

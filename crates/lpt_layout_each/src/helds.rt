@@ -15,6 +15,7 @@ ghost use Rattle.lpt_layout_each.specs.Streams.{told_by, waiting_of};
 ghost use Rattle.lpt_layout_each.specs.Told.{events_of};
 
 use crate::course::CourseAs;
+use crate::kept::KeptAs;
 use crate::{NewsAs, WaitingAs};
 use lpt_carried::{CarriedPart, Name, Reading};
 use lpt_layout_join::Counts;
@@ -23,11 +24,12 @@ use std::alloc::{AllocError, Global};
 use std::collections::BTreeMap;
 
 /// What is kept of each name while the packets of a stream come. Of a name it takes as much memory
-/// as four `CameAs`; as two, the last message's and the next one's, while parts come in their order
-/// and none of them is a part of the last message.
+/// as four `CameAs`, and some 100 octets more; as two, the last message's and the next one's, while
+/// parts come in their order and none of them is a part of the last message; and as one before the
+/// first message, unless parts come in their order behind others.
 #[derive(Drop)]
 pub struct HeldsAs {
-    pub(crate) kept: BTreeMap<Name, CourseAs>,
+    pub(crate) kept: BTreeMap<Name, KeptAs>,
     pub(crate) counts: Counts,
 }
 
@@ -133,25 +135,26 @@ impl HeldsAs {
     {
         let name = part.name();
         match self.kept.get_mut(&name) {
-            Some(course) => course.take(alloc, reading, any, missing, place, &part.part),
+            Some(kept) => kept.take(alloc, reading, any, missing, place, &part.part),
             None => {
                 let mut course = CourseAs::behind(alloc, None);
                 let news = course.take(alloc, reading, any, missing, place, &part.part)?;
-                self.put(name, course)?;
+                let kept = KeptAs::of(alloc, course)?;
+                self.put(name, kept)?;
                 Ok(news)
             }
         }
     }
 
     // Keeps this of a name. The only error is out of memory.
-    fn put(&mut self, name: Name, course: CourseAs) -> Result<(), AllocError>
-        ensures kept { OnOk result (get name_cmp self.new.kept name ≡ Some course) }
+    fn put(&mut self, name: Name, kept: KeptAs) -> Result<(), AllocError>
+        ensures kept { OnOk result (get name_cmp self.new.kept name ≡ Some kept) }
         ensures others { OnOk result ((n : Name) → same_name name n ≡ false
             → get name_cmp self.new.kept n ≡ get name_cmp self.old.kept n) }
         ensures in_order { IsOrdered name_cmp self.new.kept }
         ensures counts { self.new.counts ≡ self.old.counts }
     {
-        self.kept.insert(name, course)?;
+        self.kept.insert(name, kept)?;
         Ok(())
     }
 }

@@ -1,29 +1,18 @@
 //! What is given out of a stream, proved of all streams: functions with empty bodies.
 
 ghost use Rattle.std.specs.Prelude.{◌≡◌, [], ◌∷◌, ◌++◌, ℕ, Bool, false, List, map};
-ghost use Rattle.std.specs.List.{AllByRecursion, flat_map};
-ghost use Rattle.lpt_events.specs.declared.config.Config.{Config};
-ghost use Rattle.lpt_packet.specs.Numbers.{IsOctets};
+ghost use Rattle.std.specs.List.{flat_map};
 ghost use Rattle.lpt_carried.specs.declared.name.Name.{Name};
 ghost use Rattle.lpt_carried.specs.declared.reading.Reading.{Reading};
-ghost use Rattle.lpt_join.specs.declared.transaction.Transaction.{Transaction};
-ghost use Rattle.lpt_join.specs.Wide.{wide};
 ghost use Rattle.lpt_layout_join.specs.Counts.{nothing_counted};
 ghost use Rattle.lpt_layout_join.specs.InOrder.{IsInOrder};
-ghost use Rattle.lpt_layout_join.specs.Own.{own_reading};
 ghost use Rattle.lpt_layout_each.specs.Eaches.{counts_of, course_held, news, news_from, nothing};
 ghost use Rattle.lpt_layout_each.specs.Laws.{InOrder, IsGood, news_of_name};
 ghost use Rattle.lpt_layout_each.specs.News.{Event, News, Given, messages_in, messages_of};
-ghost use Rattle.lpt_layout_each.specs.Own as own;
-ghost use Rattle.lpt_layout_each.specs.Own.{own_news};
 ghost use Rattle.lpt_layout_each.specs.Sends.{AllSplitWhole, Sends, Split, carriers, packets_of};
 ghost use Rattle.lpt_layout_each.specs.Streams.{events};
 
-use lpt_carried::laws::the_own_parts;
-use lpt_layout::laws::the_own_layouts;
 use lpt_layout_join::laws::made_is_carried;
-use lpt_reception::laws::whole_is_split;
-use lpt_split::laws::the_own_splits;
 
 /// Each message that is given out is joined of parts of its name that agree with one another and
 /// stand among the packets, whatever these are, and a packet of its direction, if not any will do.
@@ -88,74 +77,3 @@ pub fn names_are_apart()
         → news_of_name n (events r any packets)
         ≡ news_from r any n nothing_counted nothing packets }
 {}
-
-/// At the profile's own layouts each message that is given out is one each part of which stands
-/// among the packets, whatever these are, and a packet of its direction, if not any will do.
-pub fn own_given_is_there()
-    ensures { (t : Transaction) (any : Bool) (packets : List (List ℕ)) (m : List ℕ)
-        (front back : List (List ℕ))
-        → AllByRecursion IsOctets packets
-        → messages_in (own_news t any packets) ≡ front ++ m ∷ back
-        → own.IsGood t any packets m }
-{
-    the_own_layouts();
-    the_own_parts();
-    whole_is_split();
-    names_are_apart();
-    given_is_there();
-}
-
-/// At the profile's own layouts, over packets of messages one behind the other, under one name,
-/// just these messages are given out, in their order, and nothing is given up: if each is whole
-/// with the last of its packets, which may come in any order and more than once, with others in
-/// between, but its last part not before its first.
-pub fn own_sent_is_given()
-    ensures { (t : Transaction) (any : Bool) (messages packets : List (List ℕ))
-        → AllByRecursion IsOctets packets
-        → own.Sends t any messages packets
-        → own_news t any packets ≡ map Given messages }
-{
-    the_own_layouts();
-    the_own_parts();
-    sent_is_given();
-}
-
-/// At the profile's own layouts, over the packets of messages that are split, one message behind
-/// the other under one name, and others that carry no part of it in between, just these messages
-/// are given out, in their order, and nothing is given up: whichever order their parts are sent
-/// in, and as often, if not all are sent before the last, and the last part not before the first.
-pub fn own_split_is_given()
-    ensures { (t : Transaction) (any : Bool) (c : Config) (splits : List own.Split)
-        (packets : List (List ℕ))
-        → AllByRecursion IsOctets packets
-        → own.AllSplitWhole t any c splits
-        → own.carriers t packets ≡ flat_map (own.packets_of t c) splits
-        → own_news t any packets ≡ map (λ s. Given s.message) splits }
-{
-    the_own_layouts();
-    the_own_parts();
-    the_own_splits();
-    split_is_given();
-}
-
-/// At the profile's own layouts, if the parts of a message stand in a stream in the order of their
-/// numbers, with no other part of their name between them, this message is given out with one of
-/// them: whatever came before, and whatever comes behind.
-pub fn own_in_order_is_given()
-    ensures { (t : Transaction) (any : Bool) (before front behind : List (List ℕ))
-        (last m : List ℕ)
-        → AllByRecursion IsOctets (before ++ (front ++ last ∷ []) ++ behind)
-        → own.InOrder t any m front last
-        → (earlier : List (List ℕ)) × (later : List (List ℕ)) × (after : List (List ℕ))
-        × (messages_in (news_from (own_reading t) any (wide t.name)
-        (counts_of (own_reading t) before) (course_held (own_reading t) any (wide t.name) before)
-        (front ++ last ∷ []))
-        ≡ earlier ++ m ∷ later)
-        × (messages_in (own_news t any (before ++ (front ++ last ∷ []) ++ behind))
-        ≡ messages_in (news_from (own_reading t) any (wide t.name) nothing_counted nothing before)
-        ++ (earlier ++ m ∷ later) ++ after) }
-{
-    the_own_layouts();
-    the_own_parts();
-    in_order_is_given();
-}

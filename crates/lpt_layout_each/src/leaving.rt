@@ -3,12 +3,12 @@
 ghost use Rattle.std.specs.Prelude.{◌≡◌, ◌⊎◌, ℕ, Bool, List, IfErr, OnOk};
 ghost use Rattle.lpt_carried.specs.declared.reading.Reading.{Reading};
 ghost use Rattle.lpt_layout_each.specs.Eaches as each;
-ghost use Rattle.lpt_layout_each.specs.Helds.{Follows, HoldsEach};
+ghost use Rattle.lpt_layout_each.specs.Helds.{HoldsEach, IsKept};
 ghost use Rattle.lpt_layout_each.specs.News.{Event, Hears, HearsPart};
 ghost use Rattle.lpt_layout_each.specs.Streams.{Leaves, of};
 
-use crate::course::CourseAs;
 use crate::helds::HeldsAs;
+use crate::kept::KeptAs;
 use crate::{NewsAs, TakerAs};
 use lpt_carried::Name;
 use lpt_text::StreamFault;
@@ -33,10 +33,10 @@ pub fn leave_as<T: TakerAs>(helds: HeldsAs, taker: &mut T) -> Result<(), StreamF
 }
 
 // Tells what is left of a name.
-fn tell_left<T: TakerAs>(name: Name, held: CourseAs, taker: &mut T) -> Result<(), StreamFault>
-    ensures told { (c : each.Course) → Follows c held → OnOk result
+fn tell_left<T: TakerAs>(name: Name, held: KeptAs, taker: &mut T) -> Result<(), StreamFault>
+    ensures told { (c : each.Course) → IsKept c held → OnOk result
         (Hears (T.heard taker.old) (T.heard taker.new) (of name (each.news_left c))) }
-    ensures left { (c : each.Course) → Follows c held → IfErr result
+    ensures left { (c : each.Course) → IsKept c held → IfErr result
         (λ _. HearsPart (T.heard taker.old) (T.heard taker.new) (of name (each.news_left c))) }
     ensures fault { IfErr result (λ e. (e ≡ StreamFault.Write) ⊎ (e ≡ StreamFault.Memory)) }
 {

@@ -3,14 +3,14 @@
 ghost use Rattle.std.specs.Prelude.{◌≡◌, ◌++◌, [], ℕ, Bool, List, None};
 ghost use Rattle.lpt_carried.specs.declared.reading.Reading.{Reading};
 ghost use Rattle.lpt_layout_each.specs.Eaches as each;
-ghost use Rattle.lpt_layout_each.specs.Helds.{Follows, HoldsEach};
+ghost use Rattle.lpt_layout_each.specs.Helds.{HoldsEach, IsKept};
 ghost use Rattle.lpt_layout_each.specs.Lefts.{HoldsYet, left_yet};
 ghost use Rattle.lpt_layout_each.specs.Streams.{Leaves, of};
 ghost use Rattle.lpt_layout_each.specs.Told.{events_of};
 
 use crate::NewsAs;
-use crate::course::CourseAs;
 use crate::helds::HeldsAs;
+use crate::kept::KeptAs;
 use lpt_carried::Name;
 
 /// Takes out the first name, in the order of names, of which something is left, and gives what that
@@ -35,8 +35,8 @@ pub fn pop_left(helds: &mut HeldsAs) -> Option<(Name, NewsAs)>
 }
 
 // What is left of a name; none if nothing is.
-fn left_in(name: Name, held: CourseAs) -> Option<(Name, NewsAs)>
-    ensures { (c : each.Course) → Follows c held → events_of result ≡ of name (each.news_left c) }
+fn left_in(name: Name, held: KeptAs) -> Option<(Name, NewsAs)>
+    ensures { (c : each.Course) → IsKept c held → events_of result ≡ of name (each.news_left c) }
 {
     if held.is_empty() {
         return None;

@@ -14,6 +14,7 @@ mod course;
 mod each;
 mod held;
 mod helds;
+mod kept;
 pub mod laws;
 mod leaving;
 mod lefts;

@@ -13,7 +13,6 @@ use Rattle.lpt_carried.specs.declared.name.Name.{Name}
 use Rattle.lpt_carried.specs.declared.reading.Reading.{Reading}
 use Rattle.lpt_carried.specs.Carried.{part_carried, part_of}
 use Rattle.lpt_layout_join.specs.PartNumbersInside.{has, is_ended}
-use Rattle.lpt_join.proofs.GatherLemmas.{any-next}
 use Rattle.lpt_layout_join.specs.declared.gathering.Gathering.{Gathering}
 use Rattle.lpt_layout_join.specs.declared.order.Order.{Order}
 use Rattle.lpt_layout_join.specs.Came.{Came, last_of, nothing_came, step}
@@ -23,6 +22,18 @@ use Rattle.lpt_layout_join.specs.Gathered.{Gathered, against_from, all_gathered,
 use Rattle.lpt_layout_join.specs.Gatherings.{Gives}
 use Rattle.lpt_layout_join.specs.Orders.{is_in_order}
 use Rattle.lpt_layout_join.proofs.CountLemmas.{counted-more}
+
+or_front : (a b c : Bool) → (a || (b || c)) ≡ (b || (a || c))
+or_front true true c = refl
+or_front true false c = refl
+or_front false true c = refl
+or_front false false c = refl
+
+any-next : (p : List ℕ → Bool) (bs : List (List ℕ)) (b : List ℕ)
+    → list_any p (bs ++ b ∷ []) ≡ (p b || list_any p bs)
+any-next p [] b = refl
+any-next p (x ∷ bs) b =
+    ap (λ e. p x || e) (any-next p bs b) ∙ or_front (p x) (p b) (list_any p bs)
 
 module _ (r : Reading) (n : Name) where
   -- ---- a packet more

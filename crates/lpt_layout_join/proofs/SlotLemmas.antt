@@ -1,18 +1,8 @@
 -- The octets of each part, by its number.
-use Rattle.std.proofs.Common.{◌≡◌, ◌∙◌, ap, refl, sym, inl, inr, ℕ, zero, suc, ◌+◌, ◌-◌, ◌<◌, ◌≤◌, Bool, true, false, if◌then◌else◌, List, [], ◌∷◌, ◌++◌, arith}
+use Rattle.std.proofs.Common.{◌≡◌, ◌∙◌, ap, refl, sym, inl, inr, ℕ, zero, suc, ◌+◌, ◌-◌, ◌<◌, ◌≤◌, Bool, true, false, if◌then◌else◌, List, ◌++◌, arith}
 use Rattle.std.specs.Prelude.{Option, Some, None}
 use Rattle.std.proofs.lemmas.Bool.Decides.{eqb_tells}
-use Rattle.lpt_layout_join.specs.declared.slots.Span.{Span}
 use Rattle.lpt_layout_join.specs.Came.{and_more, is_other, octets_joined, none_other}
-use Rattle.lpt_layout_join.specs.Slots.{span_in}
-
--- an empty place behind the others changes nothing
-pub span-behind : (xs : List (Option Span)) (i : ℕ)
-    → span_in (xs ++ None ∷ []) i ≡ span_in xs i
-span-behind [] zero = refl
-span-behind [] (suc i) = refl
-span-behind (x ∷ xs) zero = refl
-span-behind (x ∷ xs) (suc i) = span-behind xs i
 
 no_more : (o : Option (List ℕ)) → and_more o None ≡ None
 no_more (Some x) = refl

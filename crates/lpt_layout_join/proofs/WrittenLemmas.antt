@@ -1,10 +1,10 @@
 -- What a join writes of a stream in which a message is found.
-use Rattle.std.proofs.Common.{◌≡◌, ◌⊎◌, ◌∙◌, ap, sym, subst, refl, ℕ, ◌≤◌, Bool, true, false, List, [], ◌∷◌, ◌++◌, length, Option, Some, None, is_some, append-nil, arith}
+use Rattle.std.proofs.Common.{◌≡◌, ◌∙◌, ap, sym, subst, refl, ℕ, ◌≤◌, Bool, true, false, List, [], ◌∷◌, length, Option, Some, None, is_some, arith}
 use Rattle.std.specs.Prelude.{slice_get}
 use Rattle.std.specs.BTreeMap.{IsOrdered}
 use Rattle.std.specs.List.Sorted.{IsStrictlySortedBy}
 use Rattle.std.specs.Map.{keys_of}
-use Rattle.std.specs.Io.KnownBytes.{Appends, Consumes, IsAtEnd}
+use Rattle.std.specs.Io.KnownBytes.{Appends}
 use Rattle.std.proofs.lemmas.Map.Entries.{btree_map_get_place}
 use Rattle.std.proofs.lemmas.Map.Keys.{Less-from_sorted}
 use Rattle.lpt_carried.specs.declared.name.Name.{Name}
@@ -12,10 +12,7 @@ use Rattle.lpt_carried.specs.declared.reading.Reading.{Reading}
 use Rattle.lpt_carried.specs.Carried.{same_name}
 use Rattle.lpt_carried.proofs.NameLemmas.{same_name-true}
 use Rattle.lpt_skips.specs.declared.wanted.Wanted.{Wanted}
-use Rattle.lpt_stream.specs.declared.cut.Cut.{Cut}
-use Rattle.lpt_stream.specs.declared.cut.Cut.TheVariants.{Sealed}
-use Rattle.lpt_stream.specs.Pieces.{CutsBy, Finds, Piece, packets_of}
-use Rattle.lpt_stream.proofs.CutLemmas.{one_cut}
+use Rattle.lpt_stream.specs.Pieces.{Piece, packets_of}
 use Rattle.lpt_layout_join.specs.declared.ending.JoinEnd.{JoinEnd}
 use Rattle.lpt_layout_join.specs.declared.ending.JoinEnd.TheVariants.{Written}
 use Rattle.lpt_layout_join.specs.declared.gathering.Gathering.{Gathering}
@@ -25,42 +22,13 @@ use Rattle.lpt_layout_join.specs.Gathered.{Gathered, carry, parts_gathered}
 use Rattle.lpt_layout_join.specs.Gatherings.{GivesEach, IsKept, IsOnly, kept_of}
 use Rattle.lpt_layout_join.specs.Laws.{IsAsked}
 use Rattle.lpt_layout_join.specs.Names.{name_cmp}
-use Rattle.lpt_layout_join.specs.Writes.{Ends, EndsAs, ReadsCut, WritesEnd, end_by, end_whole, unfit}
+use Rattle.lpt_layout_join.specs.Writes.{Ends, EndsAs, WritesEnd, end_by, end_whole, unfit}
 use Rattle.lpt_layout_join.proofs.NameLemmas.{name_cmp-same, name_cmp_total}
 use Rattle.lpt_layout_join.proofs.SeveralLemmas.{at-own, at_name}
 use Rattle.lpt_layout_join.proofs.WriteLemmas.{none-came}
 
 no_true : true ≡ false → ⊥
 no_true e = cc
-
--- ---- which packets were read
-
-same_some : (x y : List ℕ) → ◌≡◌ {A = Option (List ℕ)} (Some x) (Some y) → x ≡ y
-same_some x y h = cc
-
--- what was consumed up to the end is all that there was
-all_read : (old new : Option (List ℕ)) (stream read : List ℕ)
-    → old ≡ Some stream
-    → Consumes old new read
-    → IsAtEnd new
-    → read ≡ stream
-all_read None new stream read is p e = absurd cc
-all_read (Some xs) None stream read is p e = absurd p
-all_read (Some xs) (Some ys) stream read is p e =
-    sym (p ∙ ap (λ l. read ++ l) e ∙ append-nil read) ∙ same_some xs stream is
-
--- the packets among the pieces that were read are those that are found in the stream
-pub packets_read : (k : Cut) (new : Option (List ℕ)) (P : List Piece → Type 0)
-    (stream : List ℕ) (packets : List (List ℕ))
-    → k ≡ Sealed
-    → (h : ReadsCut k (Some stream) new P)
-    → Finds stream packets
-    → packets_of h.1 ≡ packets
-packets_read k new P stream packets sealed h found =
-    let same = all_read (Some stream) new stream h.0 refl h.2 h.3 in
-    let cut : CutsBy Sealed stream h.1 =
-    subst (λ s. CutsBy Sealed s h.1) same (subst (λ c. CutsBy c h.0 h.1) sealed h.4) in
-    ap packets_of (one_cut Sealed stream h.1 found.0 cut found.1) ∙ found.2
 
 -- ---- of a message that is whole and fit
 

@@ -11,8 +11,8 @@ pub mod Missing
 pub mod MissingLists
 pub mod Names
 pub mod Orders
-pub mod Own
 pub mod PartNumbersInside
 pub mod Readers
 pub mod Slots
+pub mod Spans
 pub mod Writes

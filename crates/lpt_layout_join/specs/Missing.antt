@@ -1,5 +1,5 @@
--- Which numbers are missing.
-use Rattle.std.specs.Prelude.{◌≡◌, ℕ, ◌+◌, ◌<◌, ◌≤◌, Bool, true, false, List, [], ◌∷◌}
+-- Which numbers are missing, and which is the highest.
+use Rattle.std.specs.Prelude.{◌≡◌, ◌⊎◌, ℕ, ◌+◌, ◌<◌, ◌≤◌, Bool, true, false, List, [], ◌∷◌}
 
 -- numbers from a up to, not including, b are all there, or none is
 abbrev pub AreAll : (ℕ → Bool) → Bool → (a b : ℕ) → Type 0
@@ -19,3 +19,8 @@ pub record IsGap (there : ℕ → Bool) (k last : ℕ) (gap : ℕ × ℕ) : Type
 abbrev pub AreGaps : (ℕ → Bool) → (k last : ℕ) → List (ℕ × ℕ) → Type 0
 AreGaps there k last [] = AreAll there true k (last + 1)
 AreGaps there k last (gap ∷ gaps) = IsGap there k last gap × AreGaps there (gap.1 + 1) last gaps
+
+-- the number is the highest that is there, or 0 if none is
+pub record IsHighest (there : ℕ → Bool) (last : ℕ) : Type 0 where
+  pub most : (n : ℕ) → there n ≡ true → n ≤ last
+  pub is : (last ≡ 0) ⊎ (there last ≡ true)

@@ -18,8 +18,9 @@ use std::alloc::{AllocError, Global};
 /// What a stream's packets have given of one transaction so far: what its parts are joined to, and
 /// which of them came.
 ///
-/// It takes no more memory than the longest message and some 40 octets for each part, however many
-/// packets come.
+/// It takes at most twice as much memory as the octets of its parts and 12 octets for each of them,
+/// however many packets come; and at most two octets for each number up to the highest, which is at
+/// most 65,542.
 #[derive(Drop)]
 pub struct Gathering {
     /// What came of it.

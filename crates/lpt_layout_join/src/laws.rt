@@ -1,44 +1,28 @@
 //! What the definitions say of the parts of one message: functions with empty bodies.
 
-ghost use Rattle.std.specs.Prelude.{◌≡◌, ◌⊎◌, ◌≤◌, ℕ, Bool, true, false, List, Option, Some, None, Ok, length};
-ghost use Rattle.std.specs.List.{AllByRecursion};
+ghost use Rattle.std.specs.Prelude.{◌≡◌, ◌⊎◌, ◌≤◌, ℕ, Bool, false, List, Option, Some, None, Ok, length};
 ghost use Rattle.std.specs.Io.KnownBytes.{Appends};
-ghost use Rattle.lpt_events.specs.declared.config.Config.{Config};
 ghost use Rattle.lpt_events.specs.Arrivals.{part_subtype};
 ghost use Rattle.lpt_layout.specs.Messages.{Said, HeadFits};
 ghost use Rattle.lpt_layout.specs.Parts.{PieceFits, body_as};
 ghost use Rattle.lpt_layout.specs.Writes.{octets_as};
-ghost use Rattle.lpt_packet.specs.Names as names;
-ghost use Rattle.lpt_packet.specs.Numbers.{IsOctets};
 ghost use Rattle.lpt_packet.specs.Sizes.{longest_packet};
 ghost use Rattle.lpt_part.specs.Parts.{nth_part};
 ghost use Rattle.lpt_part.specs.Splitting.{kind_at, part_count};
 ghost use Rattle.lpt_carried.specs.declared.name.Name.{Name};
 ghost use Rattle.lpt_carried.specs.declared.reading.Reading.{Reading};
-ghost use Rattle.lpt_stream.specs.declared.cut.Cut.TheVariants.{Sealed};
 ghost use Rattle.lpt_skips.specs.declared.wanted.Wanted.{Wanted};
-ghost use Rattle.lpt_stream.specs.Pieces.{Finds, Piece, packets_of};
-ghost use Rattle.lpt_join.specs.declared.transaction.Transaction.{Transaction};
-ghost use Rattle.lpt_join.specs.Contradictions as contradictions;
-ghost use Rattle.lpt_join.specs.Joins.{packets_joined};
-ghost use Rattle.lpt_join.specs.Laws as profile;
-ghost use Rattle.lpt_join.specs.Messages.{IsFit};
-ghost use Rattle.lpt_join.specs.Several as several;
-ghost use Rattle.lpt_join.specs.Wide.{wide};
+ghost use Rattle.lpt_stream.specs.Pieces.{Piece, packets_of};
 ghost use Rattle.lpt_layout_join.specs.Came.{message_of, octets_of};
-ghost use Rattle.lpt_carried.specs.Carried.{part_carried, cut, kind_to, same_name};
-ghost use Rattle.lpt_layout_join.specs.Gathered.{came, carry, has_ended, first_against, parts_gathered};
-ghost use Rattle.lpt_layout_join.specs.Own.{message_in, own_end, own_reading};
+ghost use Rattle.lpt_carried.specs.Carried.{part_carried, kind_to, same_name};
+ghost use Rattle.lpt_layout_join.specs.Gathered.{came, carry, parts_gathered};
 ghost use Rattle.lpt_layout_join.specs.declared.ending.JoinEnd.TheVariants.{Written};
 ghost use Rattle.lpt_layout_join.specs.declared.ending.JoinReport.{JoinReport};
 ghost use Rattle.lpt_layout_join.specs.InOrder.{IsInOrder};
 ghost use Rattle.lpt_layout_join.specs.Laws.{AreOneOrOther, EachIsAmong, HasItsLength, IsAsked, IsSplit, part_named};
-ghost use Rattle.lpt_layout_join.specs.Writes.{JoinsTo, Reports, end_of, end_whole, misfit, unfit};
+ghost use Rattle.lpt_layout_join.specs.Writes.{Reports, end_of, end_whole, unfit};
 
-use lpt_carried::laws::the_own_parts;
-use lpt_join::laws::{made_alone_is_joined, made_is_joined};
-use lpt_layout::laws::{the_own_layouts, written_is_read};
-use lpt_reception::laws::whole_is_split;
+use lpt_layout::laws::written_is_read;
 
 /// The packets of a message's parts, in any order and with repeats, and others in between, are
 /// joined to that message once each part is among them, byte for byte. If no transaction was
@@ -98,61 +82,4 @@ pub fn made_is_carried()
         → part_carried r (octets_as r.layout (kind_to r.direction) s) ≡ Ok (part_named n p m k) }
 {
     written_is_read();
-}
-
-/// At the profile's own layouts a join tells what the profile's does, of whatever packets: how it
-/// ends, with which message, which parts came, of which transactions, and where the first part
-/// stands that contradicts those before it. Its streams are cut by checksums.
-pub fn the_own_joins()
-    ensures cut { (t : Transaction) → cut (own_reading t) ≡ Sealed }
-    ensures end { (t : Transaction) (any : Bool) (bs : List (List ℕ)) → AllByRecursion IsOctets bs
-        → end_of (own_reading t) any (parts_gathered (own_reading t) (wide t.name) bs)
-        ≡ own_end t.direction any (packets_joined t bs) }
-    ensures message { (t : Transaction) (bs : List (List ℕ)) → AllByRecursion IsOctets bs
-        → message_of (parts_gathered (own_reading t) (wide t.name) bs).came.parts
-        ≡ message_in (packets_joined t bs) }
-    ensures numbers { (t : Transaction) (k : ℕ) (bs : List (List ℕ)) → AllByRecursion IsOctets bs
-        → came (own_reading t) (wide t.name) k bs ≡ profile.came t k bs }
-    ensures ended { (t : Transaction) (bs : List (List ℕ)) → AllByRecursion IsOctets bs
-        → has_ended (own_reading t) (wide t.name) bs ≡ profile.has_ended t bs }
-    ensures carry { (t : Transaction) (bs : List (List ℕ)) → AllByRecursion IsOctets bs
-        → carry (own_reading t) (wide t.name) bs ≡ several.is_carried t bs }
-    ensures against { (t : Transaction) (pieces : List Piece)
-        → AllByRecursion (λ (p : Piece). IsOctets p.octets) pieces
-        → first_against (own_reading t) (wide t.name) pieces
-        ≡ contradictions.first_against t pieces }
-{
-    the_own_layouts();
-    the_own_parts();
-    whole_is_split();
-}
-
-/// At the profile's own layouts, over a stream of packets that are made of a message, and others
-/// that carry no part of its transaction, in any order and with repeats, a join writes exactly that
-/// message once each part is among them; if it is a packet of the direction, or any octets are
-/// taken. So it does if none was asked for, and the others carry no part of any. Octets that are
-/// fit are a packet of the direction.
-pub fn the_own_message_is_written()
-    ensures asked { (t : Transaction) (c : Config) (any : Bool) (m stream : List ℕ)
-        (packets : List (List ℕ)) (j : JoinReport) (after old new : Option (List ℕ))
-        → JoinsTo (several.reading_of t (Some t.name)) any j (Some stream) after old new
-        → Finds stream packets → AllByRecursion IsOctets packets → profile.IsSending t c m
-        → profile.AllMadeOrOther t c m packets → profile.EachIsAmong t c m packets
-        → (any ≡ true) ⊎ IsFit t.direction m → Appends old new m }
-    ensures only { (t : Transaction) (name : names.Name) (c : Config) (any : Bool)
-        (m stream : List ℕ) (packets : List (List ℕ)) (j : JoinReport)
-        (after old new : Option (List ℕ))
-        → JoinsTo (several.reading_of t None) any j (Some stream) after old new
-        → Finds stream packets → AllByRecursion IsOctets packets
-        → profile.IsSending (several.of_name t name) c m
-        → profile.AllMadeOrNone (several.of_name t name) c m packets
-        → profile.EachIsAmong (several.of_name t name) c m packets
-        → (any ≡ true) ⊎ IsFit t.direction m → Appends old new m }
-    ensures fit { (t : Transaction) (m : List ℕ) → IsOctets m
-        → misfit (own_reading t) m ≡ None → IsFit t.direction m }
-{
-    the_own_layouts();
-    the_own_joins();
-    made_is_joined();
-    made_alone_is_joined();
 }

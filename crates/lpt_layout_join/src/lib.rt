@@ -27,6 +27,7 @@ mod order;
 mod part_numbers;
 mod several;
 mod slots;
+mod spans;
 mod telling;
 mod writing;
 

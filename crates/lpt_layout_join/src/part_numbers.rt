@@ -19,7 +19,7 @@ impl PartNumbers {
     ghost use Rattle.std.specs.Prelude.{◌≡◌, ◌≤◌, ℕ, ◌==◌, ◌||◌, false, OnOk};
     ghost use Rattle.lpt_part.specs.Parts.{same_kind};
     ghost use Rattle.lpt_part.specs.declared.kind.Kind.TheVariants.{Last};
-    ghost use Rattle.lpt_join.specs.Laws.{IsHighest};
+    ghost use Rattle.lpt_layout_join.specs.Missing.{IsHighest};
     ghost use Rattle.lpt_layout_join.specs.PartNumbersInside.{has, is_ended};
 
     /// The numbers of a message of which no part came.

@@ -2,9 +2,8 @@
 
 ghost use Rattle.std.specs.Prelude.{◌≡◌, ℕ, List, [], IfOk};
 ghost use Rattle.std.specs.String.{string_bytes};
-ghost use Rattle.lpt_join.specs.Laws.{IsHighest};
 ghost use Rattle.lpt_layout_join.specs.PartNumbersInside.{has, is_ended};
-ghost use Rattle.lpt_layout_join.specs.Missing.{AreGaps};
+ghost use Rattle.lpt_layout_join.specs.Missing.{AreGaps, IsHighest};
 ghost use Rattle.lpt_layout_join.specs.MissingLists.{item_text, items_text, list_text, open_text, with_item};
 
 use crate::{PartNumbers, missing};

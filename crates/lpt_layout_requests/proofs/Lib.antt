@@ -1,3 +1,2 @@
 mod LengthLemmas
-mod OwnLemmas
 mod WritingLemmas

@@ -1,9 +1,8 @@
 //! What the definitions say of requests by layouts: functions with empty bodies.
 
-ghost use Rattle.std.specs.Prelude.{◌≡◌, ◌<◌, ◌≤◌, ◌↔◌, ℕ, List, [], ◌∷◌, None, Ok, length};
+ghost use Rattle.std.specs.Prelude.{◌≡◌, ◌<◌, ◌≤◌, ◌↔◌, ℕ, [], ◌∷◌, Ok, length};
 ghost use Rattle.lpt_layout.specs.declared.layout.Layout.{Layout};
 ghost use Rattle.lpt_layout.specs.Messages.{message_verdict, packet_of};
-ghost use Rattle.lpt_layout.specs.Own.{own_tc};
 ghost use Rattle.lpt_layout.specs.Packets.{verdict_as};
 ghost use Rattle.lpt_memory.specs.declared.request.Area.{Area};
 ghost use Rattle.lpt_memory.specs.Spellings.{load_text};
@@ -11,25 +10,11 @@ ghost use Rattle.lpt_packet.specs.declared.packet.PacketKind.TheVariants.{Tc};
 ghost use Rattle.lpt_packet.specs.Packets.{APacket};
 ghost use Rattle.lpt_packet.specs.Sizes.{longest_packet};
 ghost use Rattle.lpt_requests.specs.declared.request.Request.{Request};
-ghost use Rattle.lpt_requests.specs.Packets.{request_packets};
-ghost use Rattle.lpt_requests.specs.Requests.{request_fault, request_text};
+ghost use Rattle.lpt_requests.specs.Requests.{request_text};
 ghost use Rattle.lpt_layout_requests.specs.Limits.{area_room};
-ghost use Rattle.lpt_layout_requests.specs.Packets.{Fits, IsMade, packet_as, packets_as, request_said};
+ghost use Rattle.lpt_layout_requests.specs.Packets.{Fits, IsMade, packet_as, request_said};
 
-use lpt_layout::laws::{the_own_layouts, written_is_read};
-
-/// At the profile's own layout the packets of requests are those that `lpt_requests` writes, and
-/// each is made that is made there.
-pub fn the_own_packets()
-    ensures packets { (apid source count flags : ℕ) (requests : List Request)
-        → packets_as own_tc apid source count flags requests
-        ≡ request_packets apid source count flags requests }
-    ensures made { (apid source count flags : ℕ) (request : Request) → apid ≤ 2046
-        → count ≤ 16383 → flags ≤ 15 → source < 65536 → request_fault request ≡ None
-        → IsMade own_tc apid source count flags request }
-{
-    the_own_layouts();
-}
+use lpt_layout::laws::written_is_read;
 
 /// What is written by a layout is read by it again, as a telecommand with the request's body.
 pub fn requests_are_read()

@@ -1,6 +1,5 @@
 //! Requests to a memory (ECSS-E-ST-70-41C, service 6), written as a mission lays its telecommands
-//! out. At the profile's own layout their packets are those that `lpt_requests` writes, which
-//! `laws::the_own_packets` says.
+//! out. `lpt_requests` writes those of the profile, whose layout is one of these.
 //!
 //! The main types are `Layout` and `Request`. The first call is `write_requests_as`; before it,
 //! `load_limit` and `dump_limit` say how many octets of an area a request has room for.

@@ -1,5 +1,4 @@
 mod FrontLemmas
 mod ListLemmas
 pub mod ItemLemmas
-mod OwnLemmas
 pub mod SegmentLemmas

@@ -2,6 +2,5 @@ pub mod Hints
 pub mod Items
 pub mod Listers
 pub mod Lists
-pub mod Own
 pub mod Said
 pub mod Told

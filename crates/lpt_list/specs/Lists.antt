@@ -1,12 +1,12 @@
 -- The list of a stream.
-use Rattle.std.specs.Prelude.{◌≡◌, ℕ, ◌+◌, Bool, true, false, if◌then◌else◌, List, [], ◌∷◌, ◌++◌, length, codes, Option, Some, None, Result, Ok, Err}
+use Rattle.std.specs.Prelude.{◌≡◌, ℕ, ◌+◌, ◌&&◌, not, Bool, true, false, if◌then◌else◌, List, [], ◌∷◌, ◌++◌, length, codes, Option, Some, None, Result, Ok, Err}
 use Rattle.std.specs.Fmt.{decimal}
 use Rattle.std.specs.Io.KnownBytes.{Appends}
 use Rattle.lpt_stream.specs.declared.piece_kind.PieceKind.{PieceKind}
 use Rattle.lpt_stream.specs.declared.piece_kind.PieceKind.TheVariants.{Whole as APacket, Damaged, Stray}
 use Rattle.lpt_text.specs.Streams.{AppendsPart}
 use Rattle.lpt_stream.specs.Takes.{LeavesBy, ReadsBy, TakenAll}
-use Rattle.lpt_stream.specs.Pieces.{Piece, keeps_step, up_to_limit}
+use Rattle.lpt_stream.specs.Pieces.{Piece, ends_in_checksum, keeps_step, up_to_limit}
 use Rattle.lpt_packet.specs.declared.fault.PacketFault.{PacketFault}
 use Rattle.lpt_packet.specs.declared.fault.PacketFault.TheVariants.{Short, Version, Length, Segmented, NoSecondary, Checksum}
 use Rattle.lpt_packet.specs.Packets.{Sight}
@@ -82,26 +82,36 @@ tally_with APacket t = t
 tally_with Damaged t = record t { damaged = up_to_limit (t.damaged + 1) }
 tally_with Stray t = record t { stray = up_to_limit (t.stray + 1) }
 
+-- what octets are that fail a test of the header's flags: a packet, unless packets have a checksum
+-- and theirs is wrong
+abbrev pub flagged_kind : (has_checksum : Bool) → List ℕ → PieceKind
+flagged_kind c b = if c && not (ends_in_checksum b) then Damaged else APacket
+
 -- what octets of this verdict are that are as many as a header says: a packet, unless a checksum
 -- is wrong
-abbrev pub verdict_kind : Result Sight PacketFault → PieceKind
-verdict_kind (Ok s) = APacket
-verdict_kind (Err Short) = APacket
-verdict_kind (Err Version) = APacket
-verdict_kind (Err Length) = APacket
-verdict_kind (Err Segmented) = APacket
-verdict_kind (Err NoSecondary) = APacket
-verdict_kind (Err Checksum) = Damaged
+abbrev pub verdict_kind : (has_checksum : Bool) → List ℕ → Result Sight PacketFault → PieceKind
+verdict_kind c b (Ok s) = APacket
+verdict_kind c b (Err Short) = APacket
+verdict_kind c b (Err Version) = APacket
+verdict_kind c b (Err Length) = APacket
+verdict_kind c b (Err Segmented) = flagged_kind c b
+verdict_kind c b (Err NoSecondary) = flagged_kind c b
+verdict_kind c b (Err Checksum) = Damaged
 
 -- what a piece of this kind is, if its octets are of this verdict
-abbrev pub kind_judged : PieceKind → Result Sight PacketFault → PieceKind
-kind_judged APacket v = verdict_kind v
-kind_judged Damaged v = Damaged
-kind_judged Stray v = Stray
+abbrev pub kind_judged : (has_checksum : Bool) → List ℕ → PieceKind → Result Sight PacketFault
+    → PieceKind
+kind_judged c b APacket v = verdict_kind c b v
+kind_judged c b Damaged v = Damaged
+kind_judged c b Stray v = Stray
+
+-- what octets are by a layout whose packets have a checksum, or none
+abbrev pub kind_by : (has_checksum : Bool) → PieceKind → List ℕ → PieceKind
+kind_by c k b = kind_judged c b k (verdict_as c b)
 
 -- what a piece is by the layout of its packet type
 abbrev pub kind_as : Layouts → PieceKind → List ℕ → PieceKind
-kind_as l k b = kind_judged k (verdict_as (layout_in l b).packets.has_checksum b)
+kind_as l k b = kind_by (layout_in l b).packets.has_checksum k b
 
 -- with pieces more
 abbrev pub tally_behind : Layouts → Tally → List Piece → Tally

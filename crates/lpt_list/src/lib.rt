@@ -4,8 +4,7 @@
 //!
 //! The main types are `Form`, words or JSON, and `Listed`, how a list ends and how much is no
 //! packet. The first call is `list_stream`, with a source and a sink; `decode_layouts` writes what
-//! octets are alone, and `told_in` finds by which other layout parts would be read. At the profile's
-//! layouts a list says what the profile's own readers read, which `laws::the_own_lists` says.
+//! octets are alone, and `told_in` finds by which other layout parts would be read.
 #![tactic(auto)]
 
 mod areas;
@@ -16,7 +15,6 @@ mod fronts;
 mod headers;
 mod heads;
 mod hints;
-pub mod laws;
 mod lines;
 mod list_end;
 mod lister;

@@ -5,7 +5,7 @@ ghost use Rattle.lpt_stream.specs.Pieces.{IsSealedBy, keeps_step};
 ghost use Rattle.lpt_layout.specs.Packets.{Gives, verdict_as};
 ghost use Rattle.lpt_packet.specs.declared.fault.PacketFault.{PacketFault};
 ghost use Rattle.lpt_packet.specs.Packets.{Sight};
-ghost use Rattle.lpt_list.specs.Lists.{cut_for, kind_judged, stopped_with};
+ghost use Rattle.lpt_list.specs.Lists.{cut_for, flagged_kind, kind_judged, stopped_with};
 
 use crate::choice::{direction_of, kind_in};
 use crate::lines::{print_none, print_piece};
@@ -14,7 +14,7 @@ use crate::{Form, ListEnd, Listed, Tally};
 use lpt_carried::Layouts;
 use lpt_layout::{Layout, SeenAs, read_packet_as, read_sealed_as};
 use lpt_packet::PacketFault;
-use lpt_stream::{Cut, PieceKind, Taker};
+use lpt_stream::{Cut, PieceKind, Taker, ends_in_checksum};
 use lpt_text::{Sink, StreamFault, write_out};
 use std::alloc::{AllocError, Global};
 
@@ -116,7 +116,8 @@ impl<'a> Lister<'a> {
         let tailored = layouts.tailored_in(direction_of(kind_in(octets)));
         let seen = read_seen(self.cut, &tailored.packets, kind, octets);
         let line = print_piece(alloc, self.form, layouts, place, octets, &seen)?;
-        Ok((line, kind_seen(kind, &seen)))
+        let found = kind_seen(tailored.packets.has_checksum, octets, kind, &seen);
+        Ok((line, found))
     }
 
     // What is listed of an octet that is no packet: of the first of several, that no packet is
@@ -210,14 +211,34 @@ fn read_seen<'a>(
     }
 }
 
-// What a piece of this kind is that is read as this: damaged if its checksum is wrong.
-fn kind_seen(kind: PieceKind, seen: &Result<SeenAs<'_>, PacketFault>) -> PieceKind
+// What a piece of this kind is that is read as this: damaged if its checksum is wrong, also that of
+// a segment, or of a packet without a secondary header.
+fn kind_seen(
+    has_checksum: bool,
+    octets: &[u8],
+    kind: PieceKind,
+    seen: &Result<SeenAs<'_>, PacketFault>,
+) -> PieceKind
     ensures { (v : Result Sight PacketFault) → Gives seen.now v
-        → result ≡ kind_judged kind v }
+        → result ≡ kind_judged has_checksum octets.now kind v }
 {
     match (kind, seen) {
         (PieceKind::Whole, Err(PacketFault::Checksum)) => PieceKind::Damaged,
+        (PieceKind::Whole, Err(PacketFault::Segmented | PacketFault::NoSecondary)) => {
+            flagged_kind(has_checksum, octets)
+        }
         _ => kind,
+    }
+}
+
+// What octets are that fail a test of the header's flags.
+fn flagged_kind(has_checksum: bool, octets: &[u8]) -> PieceKind
+    ensures { result ≡ flagged_kind has_checksum octets.now }
+{
+    if has_checksum && !ends_in_checksum(octets) {
+        PieceKind::Damaged
+    } else {
+        PieceKind::Whole
     }
 }
 

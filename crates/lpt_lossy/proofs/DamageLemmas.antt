@@ -18,7 +18,7 @@ use Rattle.lpt_packet.proofs.Bursts.{burst_shows_in_packet}
 use Rattle.lpt_packet.proofs.SightLemmas.{seen_sight, seen_verdict}
 use Rattle.lpt_carried.specs.declared.layouts.Layouts.{Layouts}
 use Rattle.lpt_lossy.specs.declared.fate.Burst.{Burst}
-use Rattle.lpt_lossy.specs.Bursts.{can_change, bits_changed, has_bits, is_read, is_within, shows_changes, IsDamage}
+use Rattle.lpt_lossy.specs.Bursts.{can_change, bits_changed, has_bits, is_read, is_there, is_within, shows_changes, IsDamage, IsKept}
 
 -- ---- two octets in place of two
 
@@ -184,14 +184,48 @@ word-kept u b apart within =
     (get-other 4 u.at x y b within four.0 four.1)
     ∙ ap (λ (n : ℕ). 256 * get_or b 4 0 + n) (get-other 5 u.at x y b within five.0 five.1)
 
+first-kept : (u : Burst) (b : List ℕ)
+    → ((nat_lt 0 u.at && nat_lt u.at 3) || nat_lt 5 u.at) ≡ true
+    → suc u.at < length b
+    → get_or (bits_changed u b) 0 0 ≡ get_or b 0 0
+first-kept u b apart within =
+    let x = bit_xor (get_or b u.at 0) u.first in
+    let y = bit_xor (get_or b (suc u.at) 0) u.second in
+    let behind : 0 < u.at = grind (arith, nat_tests) in
+    ap (λ (o : List ℕ). get_or o 0 0) (changed-is u b)
+    ∙ get-other 0 u.at x y b within (λ (e : 0 ≡ u.at). omega arith)
+    (λ (e : 0 ≡ suc u.at). omega arith)
+
+drop-other : (n at x y : ℕ) (b : List ℕ)
+    → suc at < n
+    → suc at < length b
+    → drop n ((take at b ++ (x ∷ y ∷ [])) ++ drop (suc (suc at)) b) ≡ drop n b
+drop-other zero at x y b k h = absurd (omega arith)
+drop-other (suc zero) at x y b k h = absurd (omega arith)
+drop-other (suc (suc n)) zero x y [] k h = absurd (omega arith)
+drop-other (suc (suc n)) zero x y (p ∷ []) k h = absurd (omega arith)
+drop-other (suc (suc n)) zero x y (p ∷ q ∷ b) k h = refl
+drop-other (suc (suc n)) (suc at) x y [] k h = absurd (omega arith)
+drop-other (suc (suc n)) (suc at) x y (p ∷ b) k h = drop-other (suc n) at x y b (omega arith) (omega
+    arith)
+
+kept : (in_header : Bool) (u : Burst) (b : List ℕ)
+    → is_there in_header u.at ≡ true
+    → suc u.at < length b
+    → IsKept in_header b (bits_changed u b)
+kept true u b there within =
+    let front : suc u.at < 6 = grind (arith, nat_tests) in
+    ap (drop 6) (changed-is u b) ∙ drop-other 6 u.at _ _ b front within
+kept false u b there within = (first-kept u b there within, word-kept u b there within)
+
 -- so what is changed is damage
 pub damage : (l : Layouts) (u : Burst) (b : List ℕ)
     → can_change l u b ≡ true
-    → IsDamage b (bits_changed u b)
+    → IsDamage u.in_header b (bits_changed u b)
 damage l u b h =
     let shows = shows_changes l (packet_seen b) in
     let bits = has_bits u.first || has_bits u.second in
-    let apart = (nat_lt 0 u.at && nat_lt u.at 3) || nat_lt 5 u.at in
+    let apart = is_there u.in_header u.at in
     let there = and_left (is_within u (length b)) shows h in
     let front = and_left (bits && apart) (nat_lt (u.at + 1) (length b)) there in
     let inside : nat_lt (u.at + 1) (length b) ≡ true
@@ -205,7 +239,7 @@ damage l u b h =
       none = λ g. burst_shows_in_packet b (bits_changed u b) was.0 g differ packet;
       differ = differ;
       as_many = ap (λ (o : List ℕ). length o) (changed-is u b) ∙ length-two u.at _ _ b within;
-      same_length = word-kept u b (and_right bits apart front) within;
+      kept = kept u.in_header u b (and_right bits apart front) within;
     }
 
 -- what a reader answers says it of octets

@@ -12,7 +12,7 @@ use Rattle.lpt_lossy.specs.Carrying.{Turns, empty_turns, first_turn, next_turns,
 use Rattle.lpt_lossy.specs.Laws.{ComesFrom, due}
 use Rattle.lpt_lossy.specs.Ways.{Crossing, copies, way, written_of}
 use Rattle.lpt_lossy.proofs.TurnLemmas.{length-empty, length-step}
-use Rattle.lpt_lossy.proofs.WayLemmas.{made-copies, made-lost, way-damage, way-later}
+use Rattle.lpt_lossy.proofs.WayLemmas.{made-copies, made-lost, way-damage, way-decided, way-later}
 
 -- ---- all that is written comes from a packet
 
@@ -110,7 +110,7 @@ comes-one all link x false None among l e =
 comes-one all link x false (Some u) among l e =
     subst (AllByRecursion (ComesFrom all)) (sym (made-copies (way link x) x.octets (Some u) l e))
     (all-copies (ComesFrom all) (way link x).is_twice (bits_changed u x.octets)
-    (x, among, inr (way-damage link x u e)))
+    (x, among, inr (u, way-decided link x u e, way-damage link x u e)))
 
 comes-all : (all : List Crossing) (link : LossyLink) (xs : List Crossing)
     → ((x : Crossing) → Contains xs x → Contains all x)

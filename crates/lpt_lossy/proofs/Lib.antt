@@ -5,5 +5,6 @@ pub mod DamageLemmas
 pub mod FrontLemmas
 pub mod LawLemmas
 pub mod PartLemmas
+pub mod ThrowLemmas
 pub mod TurnLemmas
 pub mod WayLemmas

@@ -20,11 +20,11 @@ if_can false u v e = absurd cc
 -- a burst that is left was one that can change the octets
 left-can : (l : Layouts) (o : Option Burst) (b : List ℕ) (v : Burst)
     → if_it_can l o b ≡ Some v
-    → can_change l v b ≡ true
+    → (can_change l v b ≡ true) × (o ≡ Some v)
 left-can l None b v e = absurd cc
 left-can l (Some u) b v e =
     let h = if_can (can_change l u b) u v e in
-    subst (λ (u : Burst). can_change l u b ≡ true) h.1 h.0
+    (subst (λ (u : Burst). can_change l u b ≡ true) h.1 h.0, ap Some h.1)
 
 burst-if_lost : (l : Bool) (link : LossyLink) (f : Fate) (b : List ℕ) (v : Burst)
     → f.is_lost ≡ l
@@ -37,10 +37,17 @@ burst-if_lost false link f b v l e =
     sym some ∙ e
 
 pub way-damage : (link : LossyLink) (x : Crossing) (u : Burst) → (way link x).burst ≡ Some u
-    → IsDamage x.octets (bits_changed u x.octets)
+    → IsDamage u.in_header x.octets (bits_changed u x.octets)
 way-damage link x u e =
     damage link.layouts u x.octets (left-can link.layouts x.fate.burst x.octets u
-    (burst-if_lost x.fate.is_lost link x.fate x.octets u refl e))
+    (burst-if_lost x.fate.is_lost link x.fate x.octets u refl e)).0
+
+-- and it is the burst that was decided
+pub way-decided : (link : LossyLink) (x : Crossing) (u : Burst) → (way link x).burst ≡ Some u
+    → x.fate.burst ≡ Some u
+way-decided link x u e =
+    (left-can link.layouts x.fate.burst x.octets u
+    (burst-if_lost x.fate.is_lost link x.fate x.octets u refl e)).1
 
 -- a packet of a type that has no checksum isn't changed
 stays-bare : (l : Layouts) (o : Option Burst) (b : List ℕ) (f : Fields)

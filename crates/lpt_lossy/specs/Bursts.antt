@@ -16,13 +16,16 @@ use Rattle.lpt_lossy.specs.declared.fate.Burst.{Burst}
 abbrev pub has_bits : (mask : ℕ) → Bool
 has_bits mask = nat_lt 0 mask && nat_lt mask 256
 
--- whether a burst changes bits, in two octets within so many, none of them the first octet or one
--- of the length field, by which a stream is cut
+-- whether two octets are of the primary header; or, if not that is said, none of them is the first
+-- octet or one of the length field, by which a stream is cut
+abbrev pub is_there : (in_header : Bool) → (at : ℕ) → Bool
+is_there true at = nat_lt at 5
+is_there false at = (nat_lt 0 at && nat_lt at 3) || nat_lt 5 at
+
+-- whether a burst changes bits, in two octets within so many, where it is said to
 abbrev pub is_within : Burst → (len : ℕ) → Bool
 is_within u len =
-    (has_bits u.first || has_bits u.second)
-    && ((nat_lt 0 u.at && nat_lt u.at 3) || nat_lt 5 u.at)
-    && nat_lt (u.at + 1) len
+    (has_bits u.first || has_bits u.second) && is_there u.in_header u.at && nat_lt (u.at + 1) len
 
 -- how packets of this type are laid out
 abbrev pub tailored_for : PacketKind → Layouts → Tailored
@@ -59,10 +62,16 @@ bits_changed u b =
     ++ (bit_xor (slice_index b u.at) u.first ∷ bit_xor (slice_index b (u.at + 1)) u.second ∷ [])
     ++ drop (u.at + 2) b
 
--- octets that were a packet, and are none any more: as many, with the same length field
-pub record IsDamage (b damaged : List ℕ) : Type 0 where
+-- what of octets is as it was: all behind the header; or the first octet and the length field, by
+-- which a stream is cut
+abbrev pub IsKept : (in_header : Bool) → (b damaged : List ℕ) → Type 0
+IsKept true b d = drop 6 d ≡ drop 6 b
+IsKept false b d = (slice_index d 0 ≡ slice_index b 0) × (word_at d 4 ≡ word_at b 4)
+
+-- octets that were a packet, and are none any more: as many
+pub record IsDamage (in_header : Bool) (b damaged : List ℕ) : Type 0 where
   pub was : (f : Fields) × IsPacket b f
   pub none : (f : Fields) → ¬ IsPacket damaged f
   pub differ : DifferInBurst b damaged
   pub as_many : length damaged ≡ length b
-  pub same_length : word_at damaged 4 ≡ word_at b 4
+  pub kept : IsKept in_header b damaged

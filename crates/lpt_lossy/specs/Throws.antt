@@ -1,5 +1,5 @@
 -- What becomes of packets by chance.
-use Rattle.std.specs.Prelude.{ℕ, ◌+◌, ◌-◌, ◌/◌, ◌%◌, nat_lt, Bool, if◌then◌else◌, Some, None}
+use Rattle.std.specs.Prelude.{ℕ, ◌+◌, ◌-◌, ◌/◌, ◌%◌, nat_lt, Bool, true, false, if◌then◌else◌, Option, Some, None}
 use Rattle.rand_xoshiro.specs.SplitMix64.{splitmix_seed}
 use Rattle.rand_xoshiro.specs.Xoshiro256.{of_seed, plus_plus}
 use Rattle.lpt_lossy.specs.declared.dice.Dice.{Dice}
@@ -25,7 +25,26 @@ burst_of len word =
       at = (if nat_lt place 2 then place + 1 else place + 4);
       first = bits / 256;
       second = bits % 256;
+      in_header = false;
     }
+
+-- the bits of a primary header that a word says: of any of its octets
+abbrev pub burst_of_header : (word : ℕ) → Burst
+burst_of_header word =
+    let bits = word % 65535 + 1 in
+    record {
+      at = word / 65536 % 5;
+      first = bits / 256;
+      second = bits % 256;
+      in_header = true;
+    }
+
+-- the bits that two words say, of a packet of so many octets; the front of the first says whether
+-- they are of the header, and its end whether there are others
+abbrev pub burst_said : Odds → (len damage bits : ℕ) → Option Burst
+burst_said odds len damage bits =
+    if befalls odds.headers (damage / 1000000) then Some (burst_of_header bits)
+    else if befalls odds.damage damage then Some (burst_of len bits) else None
 
 -- what five words say
 abbrev pub fate_said : Odds → (len lose repeat later damage bits : ℕ) → Fate
@@ -33,7 +52,7 @@ fate_said odds len lose repeat later damage bits = record {
   is_lost = befalls odds.lose lose;
   is_twice = befalls odds.repeat repeat;
   later = later % (odds.delay + 1);
-  burst = (if befalls odds.damage damage then Some (burst_of len bits) else None);
+  burst = burst_said odds len damage bits;
 }
 
 -- what becomes of the next packet, which has so many octets, and the dice then

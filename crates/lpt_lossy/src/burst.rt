@@ -8,15 +8,19 @@ use crate::{Burst, Layouts};
 use lpt_packet::{Octets, PacketFault, PacketKind, Seen, read_packet};
 use std::alloc::{AllocError, Global};
 
-// Whether a burst changes bits, within so many octets, and none of the first octet and of the
-// length field, by which a stream is cut.
+// Whether a burst changes bits, within so many octets: those of the header if it is said to, and
+// else none of the first octet and of the length field, by which a stream is cut.
 fn is_within(burst: &Burst, len: usize) -> bool
     ensures { result ≡ is_within burst.now len }
 {
     let at = burst.at;
     let has_bits = burst.first > 0 || burst.second > 0;
-    let is_apart = (at > 0 && at < 3) || at > 5;
-    has_bits && is_apart && at < len && at + 1 < len
+    let is_there = if burst.in_header {
+        at < 5
+    } else {
+        (at > 0 && at < 3) || at > 5
+    };
+    has_bits && is_there && at < len && at + 1 < len
 }
 
 // Whether octets of these layouts are changed by a burst: it is within them, and they are a packet

@@ -1,7 +1,10 @@
 //! Packets that are lost, repeated, delayed and damaged by chance.
 
-use crate::fate::{Decider, Fate};
-use crate::words::{befalls, burst_of, up_to};
+ghost use Rattle.std.specs.Prelude.{◌≡◌, ◌≤◌};
+ghost use Rattle.lpt_lossy.specs.Throws.{burst_said};
+
+use crate::fate::{Burst, Decider, Fate};
+use crate::words::{ALWAYS, befalls, burst_of, burst_of_header, up_to};
 use rand_core::SeedableRng;
 use rand_core::utils::NextWord;
 use rand_xoshiro::Xoshiro256PlusPlus;
@@ -13,8 +16,11 @@ pub struct Odds {
     pub lose: u32,
     /// That it is written twice.
     pub repeat: u32,
-    /// That bits of it are changed.
+    /// That bits of it are changed, but none of its first octet and its length field.
     pub damage: u32,
+    /// That bits of its primary header are changed, of whatever octets. What befalls it so isn't
+    /// damaged otherwise.
+    pub headers: u32,
     /// How many packets later it is written at most: each number up to this one is as likely.
     pub delay: u16,
 }
@@ -53,11 +59,7 @@ impl Decider for Dice {
         let later = self.generator.next_word();
         let damage = self.generator.next_word();
         let bits = self.generator.next_word();
-        let burst = if befalls(self.odds.damage, damage) {
-            Some(burst_of(len, bits))
-        } else {
-            None
-        };
+        let burst = burst_said(&self.odds, len, damage, bits);
         Fate {
             is_lost: befalls(self.odds.lose, lose),
             is_twice: befalls(self.odds.repeat, repeat),
@@ -65,4 +67,18 @@ impl Decider for Dice {
             burst,
         }
     }
+}
+
+// The bits to change in a packet of so many octets, if these words say that some change.
+fn burst_said(odds: &Odds, len: usize, damage: u64, bits: u64) -> Option<Burst>
+    requires { 7 ≤ len }
+    ensures { result ≡ burst_said odds.now len damage bits }
+{
+    if befalls(odds.headers, damage / ALWAYS) {
+        return Some(burst_of_header(bits));
+    }
+    if befalls(odds.damage, damage) {
+        return Some(burst_of(len, bits));
+    }
+    None
 }

@@ -22,6 +22,9 @@ pub struct Burst {
     pub first: u8,
     /// The bits of the second that are changed.
     pub second: u8,
+    /// Whether both are octets of the primary header, of which then each may change. If not, the
+    /// first octet and the length field stay as they are.
+    pub in_header: bool,
 }
 
 /// Who decides what becomes of packets, one after the other.

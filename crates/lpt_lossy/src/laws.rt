@@ -5,16 +5,20 @@ ghost use Rattle.std.specs.Prelude.{◌≡◌, ◌≤◌, ◌&&◌, ℕ, Bool, t
 ghost use Rattle.std.specs.List.{AllByRecursion};
 ghost use Rattle.lpt_carried.specs.Layouts.{own_layouts};
 ghost use Rattle.lpt_packet.specs.Packets.{APacket, Fields, packet_seen};
+ghost use Rattle.lpt_lossy.specs.declared.dice.Dice.{Dice};
 ghost use Rattle.lpt_lossy.specs.declared.fate.Burst.{Burst};
 ghost use Rattle.lpt_lossy.specs.declared.link.LossyLink.{LossyLink};
 ghost use Rattle.lpt_lossy.specs.Bursts.{IsDamage, bits_changed, can_change, is_packet, is_within, tailored_for};
 ghost use Rattle.lpt_lossy.specs.Carrying.{packets_carried, so_far, turns_first};
 ghost use Rattle.lpt_lossy.specs.Frames.{IsCut, Stops};
-ghost use Rattle.lpt_lossy.specs.Laws.{ComesFrom, due};
-ghost use Rattle.lpt_lossy.specs.Ways.{Crossing, copies, way, written_of};
+ghost use Rattle.lpt_lossy.specs.Laws.{ComesFrom, due, spares_header};
+ghost use Rattle.lpt_lossy.specs.Throws.{throw};
+ghost use Rattle.lpt_lossy.specs.Ways.{Crossing, copies, crossings, way, written_of};
 
 /// Each packet that is written is one that was read, or was a packet and is none any more: it has
-/// as many octets and the same length field, and the checksum shows that bits of it were changed.
+/// as many octets, and the checksum shows that bits of it were changed. Either its first octet and
+/// its length field are as they were, or, if bits of its header were to change, all behind the
+/// header is.
 pub fn nothing_else_is_written()
     ensures { (link : LossyLink) (xs : List Crossing)
         → AllByRecursion (ComesFrom xs) (packets_carried link xs) }
@@ -31,7 +35,13 @@ pub fn packets_are_written_once_or_twice()
     ensures damaged { (link : LossyLink) (x : Crossing) (u : Burst) → (way link x).is_lost ≡ false
         → (way link x).burst ≡ Some u
         → (written_of link x ≡ copies (way link x).is_twice (bits_changed u x.octets))
-        × IsDamage x.octets (bits_changed u x.octets) }
+        × IsDamage u.in_header x.octets (bits_changed u x.octets) }
+{}
+
+/// Dice whose odds damage no headers leave each packet's first octet and length field as they are.
+pub fn headers_are_spared()
+    ensures { (dice : Dice) (frames : List (List ℕ)) → dice.odds.headers ≡ 0
+        → AllByRecursion (λ x. spares_header x.fate.burst ≡ true) (crossings throw dice frames) }
 {}
 
 /// All that is to be written of packets is written, each copy once, in whatever order: any test

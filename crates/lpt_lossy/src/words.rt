@@ -1,12 +1,12 @@
 //! What a word of a generator says.
 
 ghost use Rattle.std.specs.Prelude.{◌≡◌, ◌≤◌, ◌+◌, ◌%◌};
-ghost use Rattle.lpt_lossy.specs.Throws.{befalls, burst_of};
+ghost use Rattle.lpt_lossy.specs.Throws.{befalls, burst_of, burst_of_header};
 
 use crate::Burst;
 
 /// All of it, in millionths.
-const ALWAYS: u64 = 1_000_000;
+pub(crate) const ALWAYS: u64 = 1_000_000;
 
 // Whether what happens as often as this happens.
 pub(crate) fn befalls(odds: u32, word: u64) -> bool
@@ -33,5 +33,19 @@ pub(crate) fn burst_of(len: usize, word: u64) -> Burst
         at: if place < 2 { place + 1 } else { place + 4 },
         first: (bits / 256) as u8,
         second: (bits % 256) as u8,
+        in_header: false,
+    }
+}
+
+// Bits to change of a primary header.
+pub(crate) fn burst_of_header(word: u64) -> Burst
+    ensures { result ≡ burst_of_header word }
+{
+    let bits = word % 65_535 + 1;
+    Burst {
+        at: (word / 65_536 % 5) as usize,
+        first: (bits / 256) as u8,
+        second: (bits % 256) as u8,
+        in_header: true,
     }
 }

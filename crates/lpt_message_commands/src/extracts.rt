@@ -137,10 +137,10 @@ fn extract_status(
     extracted: &Extracted,
 ) -> Result<Status, Failure> {
     match extracted.end {
-        ExtractEnd::Written => tell_gaps(rt, wanted, &extracted.gaps),
+        ExtractEnd::Written => tell_image(rt, wanted, extracted),
         ExtractEnd::NotWhole => {
             tell_place(rt, "nothing was written: the image isn't whole");
-            tell_gaps(rt, wanted, &extracted.gaps);
+            tell_image(rt, wanted, extracted);
         }
         ExtractEnd::Nothing => tell_nothing(rt, wanted, &extracted.tally),
         ExtractEnd::TooLarge(_) => {}
@@ -158,7 +158,7 @@ fn extract_status(
             );
             Err(Failure::at(Fault::Memory, place))
         }
-        _ => Ok(if extracted.is_clean() {
+        _ => Ok(if extracted.is_clean() && !is_doubtful(wanted, extracted) {
             Status::Done
         } else {
             Status::Refused
@@ -166,11 +166,50 @@ fn extract_status(
     }
 }
 
+// Whether an image is wanted whole for which areas contradict one another.
+fn is_doubtful(wanted: &Wanted, extracted: &Extracted) -> bool {
+    matches!(wanted.at, Some(ImagePlace { whole: true, .. })) && !extracted.clashes.is_empty()
+}
+
+// Tells of which addresses of the image no octets came, or different ones.
+fn tell_image(rt: &(impl Eprint + AllocGlobal), wanted: &Wanted, extracted: &Extracted) {
+    if let Some(ImagePlace { memory, .. }) = wanted.at {
+        tell_gaps(rt, memory, &extracted.gaps);
+        tell_clashes(rt, memory, &extracted.clashes);
+    }
+}
+
+// Tells of which addresses different octets came: those of areas that overlap or follow one another
+// as one.
+fn tell_clashes(rt: &(impl Eprint + AllocGlobal), memory: u8, clashes: &BTreeMap<u64, u64>) {
+    let mut open: Option<(u64, u64)> = None;
+    for (first, last) in clashes {
+        open = match open {
+            Some((begun, end)) if *first <= end.saturating_add(1) => Some((begun, end.max(*last))),
+            Some(told) => {
+                tell_text(rt, clash_text(rt.alloc(), memory, told));
+                Some((*first, *last))
+            }
+            None => Some((*first, *last)),
+        };
+    }
+    if let Some(told) = open {
+        tell_text(rt, clash_text(rt.alloc(), memory, told));
+    }
+}
+
+// That different octets came for the addresses from the first to the last. The only error is out of
+// memory.
+fn clash_text(alloc: Global, memory: u8, (first, last): (u64, u64)) -> Result<String, AllocError> {
+    if first == last {
+        format!(in alloc; "memory {memory}: address {first} came with different octets")
+    } else {
+        format!(in alloc; "memory {memory}: addresses {first}-{last} came with different octets")
+    }
+}
+
 // Tells of which addresses of the image no octets came.
-fn tell_gaps(rt: &(impl Eprint + AllocGlobal), wanted: &Wanted, gaps: &BTreeMap<u64, u64>) {
-    let Some(ImagePlace { memory, .. }) = wanted.at else {
-        return;
-    };
+fn tell_gaps(rt: &(impl Eprint + AllocGlobal), memory: u8, gaps: &BTreeMap<u64, u64>) {
     for (first, last) in gaps {
         let text = if first == last {
             format!(in rt.alloc(); "memory {memory}: no octets came for address {first}")

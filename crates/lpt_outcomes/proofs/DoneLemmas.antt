@@ -11,7 +11,7 @@ use Rattle.lpt_verify.specs.Reading.{is_failure, is_success}
 use Rattle.lpt_verify.specs.Reports.{asks, failure, success, success_if}
 use Rattle.lpt_verify.proofs.ReadingLemmas.{IsReport-read}
 use Rattle.lpt_failures.specs.declared.notice.FailureNotice.{FailureNotice}
-use Rattle.lpt_failures.specs.declared.notice.FailureNotice.TheVariants.{Code}
+use Rattle.lpt_failures.specs.Failures.{notice_of}
 use Rattle.lpt_failures.specs.declared.reading.RequestReport.{RequestReport}
 use Rattle.lpt_failures.proofs.FailureLemmas.{own-read}
 use Rattle.lpt_outcomes.specs.declared.asked.Asked.{Asked}
@@ -20,7 +20,7 @@ use Rattle.lpt_outcomes.specs.declared.outcome.Outcome.{Outcome}
 use Rattle.lpt_outcomes.specs.Keys.{key_of}
 use Rattle.lpt_outcomes.specs.Requests.{nothing_told}
 use Rattle.lpt_outcomes.specs.Reports.{all_heard, news_heard, news, told_by}
-use Rattle.lpt_outcomes.specs.Done.{requests_answered, has_last, is_acknowledged, is_done, news_sent}
+use Rattle.lpt_outcomes.specs.Done.{requests_answered, has_last, asks_of_execution, is_done, news_sent}
 use Rattle.lpt_outcomes.proofs.KeyLemmas.{same-self}
 
 -- ---- one report
@@ -45,7 +45,7 @@ success-told to id k fits coded =
     })))
 
 failure-told : (to id k code : ℕ) → id < 2 ^ 32 → code < 2 ^ 16 → is_failure k ≡ true
-    → news_sent to (failure id k code) ≡ Some (news to k (on id (Some (Code code))))
+    → news_sent to (failure id k code) ≡ Some (news to k (on id (Some (notice_of k code))))
 failure-told to id k code fits code_fits coded =
     ap (option_map (news to k))
     (own-read k (be id 4 ++ be code 2) (own_on id (Some code))
@@ -91,10 +91,10 @@ by_success a true k fits coded =
 by_failure : (a : Asked) (k code : ℕ) → a.request.value < 2 ^ 32 → code < 2 ^ 16
     → is_failure k ≡ true
     → sent a.source (a ∷ []) (failure a.request.value k code ∷ [])
-    ≡ (record a { outcome = told_by a.outcome k (Some (Code code)) }) ∷ []
+    ≡ (record a { outcome = told_by a.outcome k (Some (notice_of k code)) }) ∷ []
 by_failure a k code fits code_fits coded =
     rw (failure-told a.source a.request.value k code fits code_fits coded)
-    (ap (λ b. b ∷ []) (own a k (Some (Code code))))
+    (ap (λ b. b ∷ []) (own a k (Some (notice_of k code))))
 
 -- ---- all reports
 
@@ -106,9 +106,8 @@ all_told x y z = record { accepted = x; started = y; completed = z; failure = No
 last_told : (x y z : Bool)
     → (if z then (all_told x y z).completed
     else if y then (all_told x y z).started
-    else if x then (all_told x y z).accepted
-    else false)
-    ≡ (x || y || z)
+    else x && (all_told x y z).completed)
+    ≡ (y || z)
 last_told true true true = refl
 last_told true true false = refl
 last_told true false true = refl
@@ -135,7 +134,7 @@ told_is false false false = refl
 -- of a request that was carried out
 carried_out : (a : Asked) → a.request.value < 2 ^ 32 → a.outcome ≡ nothing_told
     → map is_done (requests_answered a.source a.request.value a.flags None (a ∷ []))
-    ≡ is_acknowledged a.flags ∷ []
+    ≡ asks_of_execution a.flags ∷ []
 carried_out a fits before =
     let s = a.source in
     let v = a.request.value in
@@ -163,7 +162,7 @@ carried_out a fits before =
 
 -- a failure isn't done
 undone : (a : Asked) (k code : ℕ) → a.outcome.failure ≡ None
-    → is_done (record a { outcome = told_by a.outcome k (Some (Code code)) }) ≡ false
+    → is_done (record a { outcome = told_by a.outcome k (Some (notice_of k code)) }) ≡ false
 undone a k code none = rw none refl
 
 -- a success tells of none
@@ -211,6 +210,6 @@ pub answered-done : (a : Asked) (code : Option ℕ)
     → IfSome code (λ c. c < 2 ^ 16)
     → a.outcome ≡ nothing_told
     → map is_done (requests_answered a.source a.request.value a.flags code (a ∷ []))
-    ≡ (not (is_some code) && is_acknowledged a.flags) ∷ []
+    ≡ (not (is_some code) && asks_of_execution a.flags) ∷ []
 answered-done a None fits code_fits before = carried_out a fits before
 answered-done a (Some code) fits code_fits before = failed a code fits code_fits before

@@ -2,5 +2,4 @@ pub mod AnswerLemmas
 pub mod DoneLemmas
 pub mod KeyLemmas
 pub mod OpenLemmas
-pub mod OwnLemmas
 pub mod TakeLemmas

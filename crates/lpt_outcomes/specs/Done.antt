@@ -16,14 +16,18 @@ use Rattle.lpt_outcomes.specs.Reports.{all_heard, news}
 abbrev pub is_acknowledged : (flags : ℕ) → Bool
 is_acknowledged flags = asks flags 1 || asks flags 2 || asks flags 8
 
--- whether the last report of success that they ask for has come: of completion, of start or of
--- acceptance. If they ask for none, no report says that it is done
+-- whether they ask for a report of the execution itself: of its start or its completion
+abbrev pub asks_of_execution : (flags : ℕ) → Bool
+asks_of_execution flags = asks flags 2 || asks flags 8
+
+-- whether the last report of success of the execution that they ask for has come: of completion,
+-- or of start. If they ask for acceptance alone, a report of completion that nobody asked for says
+-- it; if they ask for none, no report does
 abbrev pub has_last : (flags : ℕ) → Outcome → Bool
 has_last flags o =
     if asks flags 8 then o.completed
     else if asks flags 2 then o.started
-    else if asks flags 1 then o.accepted
-    else false
+    else asks flags 1 && o.completed
 
 -- whether a request didn't fail, and the last that it asks for has come
 abbrev pub is_done : Asked → Bool

@@ -3,7 +3,6 @@ pub mod Done
 pub mod Keys
 pub mod Lines
 pub mod Opened
-pub mod Own
 pub mod Passing
 pub mod Reports
 pub mod Requests

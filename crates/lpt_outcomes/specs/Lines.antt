@@ -4,7 +4,7 @@ use Rattle.std.specs.List.{flat_map}
 use Rattle.hex.specs.Hex.{encode_lower}
 use Rattle.lpt_packet.specs.Numbers.{be}
 use Rattle.lpt_failures.specs.declared.notice.FailureNotice.{FailureNotice}
-use Rattle.lpt_failures.specs.declared.notice.FailureNotice.TheVariants.{Code, Unread}
+use Rattle.lpt_failures.specs.declared.notice.FailureNotice.TheVariants.{Code, Foreign, Unread}
 use Rattle.lpt_list.specs.declared.form.Form.{Form}
 use Rattle.lpt_list.specs.declared.form.Form.TheVariants.{Text, Json}
 use Rattle.lpt_list.specs.Items.{Item, Number, Alone, areas_said, items_text}
@@ -46,7 +46,7 @@ success_text form o =
     ++ flag_text form (codes "started") o.started
     ++ flag_text form (codes "completed") o.completed
 
--- what a failure code says
+-- what a failure code of this service says
 abbrev pub sentence : ℕ → List ℕ
 sentence code =
     if code == 1 then codes "unknown service or subtype"
@@ -59,17 +59,26 @@ sentence code =
     else if code == 8 then codes "too many open"
     else codes "unknown code"
 
--- a failure with this notice
-abbrev pub notice_said : FailureNotice → List Item
-notice_said (Code code) =
-    Number (codes "failed") (codes "failure_code") code
-    ∷ Alone (codes "failure") (sentence code) ∷ []
-notice_said Unread = Alone (codes "failure") (codes "failed, code not read") ∷ []
+-- a failure with a code, and what that means
+abbrev pub coded_said : (code : ℕ) → (why : List ℕ) → List Item
+coded_said code why =
+    Number (codes "failed") (codes "failure_code") code ∷ Alone (codes "failure") why ∷ []
+
+-- one whose code isn't read: the name in JSON says that it is a failure
+abbrev pub unread_text : Form → List ℕ
+unread_text Text = codes " failed, code not read"
+unread_text Json = items_text Json (Alone (codes "failure") (codes "code not read") ∷ [])
+
+-- a failure with this notice: a code that isn't this service's own has no meaning that is known
+abbrev pub notice_text : Form → FailureNotice → List ℕ
+notice_text form (Code code) = items_text form (coded_said code (sentence code))
+notice_text form (Foreign code) = items_text form (coded_said code (codes "unknown code"))
+notice_text form Unread = unread_text form
 
 -- the failure, if one was
-abbrev pub failure_said : Option FailureNotice → List Item
-failure_said None = []
-failure_said (Some notice) = notice_said notice
+abbrev pub failure_text : Form → Option FailureNotice → List ℕ
+failure_text form None = []
+failure_text form (Some notice) = notice_text form notice
 
 -- whether anything was
 abbrev pub is_told : Outcome → Bool
@@ -106,7 +115,7 @@ line_of form n a =
     ++ items_text form (asked_items a)
     ++ items_text form (areas_said a.areas)
     ++ success_text form a.outcome
-    ++ items_text form (failure_said a.outcome.failure)
+    ++ failure_text form a.outcome.failure
     ++ pending_text form a
     ++ items_text form (shared_said n)
     ++ closing form

@@ -84,9 +84,10 @@ impl Asked {
 /// Whether nothing is open: there are requests, all of them are done, and nothing is to be told
 /// that was passed over among them or among the reports.
 ///
-/// A request is done if it didn't fail, and the last report of success has come that its
-/// acknowledgement flags ask for, of acceptance, start and completion; no report of progress is
-/// waited for. One that asks for none of these is never done.
+/// A request is done if it didn't fail, and the last report of its execution's success has come
+/// that its acknowledgement flags ask for: of completion, or of start. That it was accepted says
+/// nothing of its end: one that asks for acceptance alone is done if a report of completion came
+/// all the same, and one that asks for nothing is never done. No report of progress is waited for.
 pub fn are_done(requests: &[Asked], of_requests: &Passed, of_reports: &Passed) -> bool
     ensures { IsTrue result ↔ AreDone requests.now of_requests.now of_reports.now }
 {

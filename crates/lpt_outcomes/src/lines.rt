@@ -2,14 +2,16 @@
 
 ghost use Rattle.std.specs.Prelude.{◌≡◌, IfOk};
 ghost use Rattle.std.specs.String.{string_bytes};
-ghost use Rattle.lpt_failures.specs.declared.notice.FailureNotice.TheVariants.{Code, Unread};
 ghost use Rattle.lpt_list.specs.Items.{areas_said, items_text};
 ghost use Rattle.lpt_list.specs.Lists.{closing};
-ghost use Rattle.lpt_outcomes.specs.Lines.{asked_items, failure_said, flag_text, notice_said, line_of, nothing_text, opening, pending_text, sentence, shared_said, success_text, unasked_said};
+ghost use Rattle.lpt_outcomes.specs.Lines.{asked_items, coded_said, failure_text, flag_text, line_of, nothing_text, opening, pending_text, sentence, shared_said, success_text, unasked_said, unread_text};
 
 use crate::{Asked, FailureNotice, Outcome};
 use lpt_list::{Form, print_areas};
 use std::alloc::{AllocError, Global};
+
+/// What is said of a failure code that isn't this service's own.
+const FOREIGN: &str = "unknown code";
 
 /// For so many octets a line has room from the first.
 const LINE_ROOM: usize = 240;
@@ -89,20 +91,20 @@ fn flag(alloc: Global, form: Form, word: &str, is: bool) -> Result<String, Alloc
 
 // The failure, if one was reported.
 fn failure(alloc: Global, form: Form, notice: Option<FailureNotice>) -> Result<String, AllocError>
-    ensures { IfOk result (λ t. string_bytes t ≡ items_text form (failure_said notice)) }
+    ensures { IfOk result (λ t. string_bytes t ≡ failure_text form notice) }
 {
     match notice {
         None => Ok(String::new(alloc)),
-        Some(FailureNotice::Code(code)) => coded_failure(alloc, form, code),
+        Some(FailureNotice::Code(code)) => coded_failure(alloc, form, code, sentence(code)),
+        Some(FailureNotice::Foreign(code)) => coded_failure(alloc, form, code, FOREIGN),
         Some(FailureNotice::Unread) => uncoded_failure(alloc, form),
     }
 }
 
-// A failure with this code.
-fn coded_failure(alloc: Global, form: Form, code: u16) -> Result<String, AllocError>
-    ensures { IfOk result (λ t. string_bytes t ≡ items_text form (notice_said (Code code))) }
+// A failure with this code, which means this.
+fn coded_failure(alloc: Global, form: Form, code: u16, why: &str) -> Result<String, AllocError>
+    ensures { IfOk result (λ t. string_bytes t ≡ items_text form (coded_said code why.now)) }
 {
-    let why = sentence(code);
     match form {
         Form::Text => format!(in alloc; " failed {code} {why}"),
         Form::Json => format!(in alloc; ",\"failure_code\":{code},\"failure\":\"{why}\""),
@@ -111,11 +113,11 @@ fn coded_failure(alloc: Global, form: Form, code: u16) -> Result<String, AllocEr
 
 // A failure whose code isn't read.
 fn uncoded_failure(alloc: Global, form: Form) -> Result<String, AllocError>
-    ensures { IfOk result (λ t. string_bytes t ≡ items_text form (notice_said Unread)) }
+    ensures { IfOk result (λ t. string_bytes t ≡ unread_text form) }
 {
     match form {
         Form::Text => format!(in alloc; " failed, code not read"),
-        Form::Json => format!(in alloc; ",\"failure\":\"failed, code not read\""),
+        Form::Json => format!(in alloc; ",\"failure\":\"code not read\""),
     }
 }
 
@@ -132,7 +134,7 @@ fn sentence(code: u16) -> &'static str
         6 => "reply too long",
         7 => "no free identifier",
         8 => "too many open",
-        _ => "unknown code",
+        _ => FOREIGN,
     }
 }
 

@@ -70,8 +70,8 @@ impl Outcome {
         self.accepted || self.started || self.completed || self.failure.is_some()
     }
 
-    // Whether the last report of success that these flags ask for has come: never, if they ask
-    // for none.
+    // Whether the last report of the execution's success that these flags ask for has come. If they
+    // ask for acceptance alone, one of completion that came all the same says it.
     pub(crate) fn has_last(&self, flags: u8) -> bool
         ensures { result ≡ has_last flags self.now }
     {
@@ -79,10 +79,8 @@ impl Outcome {
             self.completed
         } else if flags / 2 % 2 == 1 {
             self.started
-        } else if flags % 2 == 1 {
-            self.accepted
         } else {
-            false
+            flags % 2 == 1 && self.completed
         }
     }
 }

@@ -55,6 +55,9 @@ impl Given {
 
     // That there are so many digits. The only error is out of memory.
     fn odd(self, rt: &impl AllocGlobal, digits: usize) -> Result<String, AllocError> {
+        if digits == 0 {
+            return format!(in rt.alloc(); "HEX: the word is empty, and - stands for no octets");
+        }
         let name = match self {
             Given::Word => "HEX",
             Given::Input => "standard input",
@@ -63,8 +66,9 @@ impl Given {
     }
 }
 
-/// Prints what octets are as a packet: those of a word, or of standard input for `-`, where white
-/// space is passed over.
+/// Prints what octets are as a packet: those of a word, of which `-` is none, or those of standard
+/// input if there is no word. White space is passed over there, and if it has no digits, it is no
+/// octets; an empty word is refused.
 ///
 /// Errors: `Read`, `Write` if a read or a write failed, `Memory`. What stands for no octets is
 /// no error here: it is reported on standard error, and the status says so. If a part isn't read
@@ -78,14 +82,7 @@ pub fn decode<R: Machine>(
 ) -> Result<Status, Failure>
     requires { IsPartSize config.part_size }
 {
-    let hex = words.hex;
-    let given = if hex == STANDARD {
-        let text = standard_text(rt)?;
-        octets_in(rt, Given::Input, text.as_slice())
-    } else {
-        octets_in(rt, Given::Word, hex.as_bytes())
-    };
-    let Some(octets) = given? else {
+    let Some(octets) = octets_given(rt, words.hex)? else {
         return Ok(Status::Unreadable);
     };
     let octets = octets.as_slice();
@@ -178,6 +175,23 @@ fn decode_segment(rt: &(impl Print + AllocGlobal), octets: &[u8]) -> Result<Stat
     Ok(Status::Refused)
 }
 
+// The octets that a word stands for, or standard input if there is none; none if it stands for
+// none, after standard error was told so.
+//
+// Errors: as of `standard_text`; `Memory`.
+fn octets_given<R: Machine>(rt: &R, hex: Option<&str>) -> Result<Option<Octets>, Failure> {
+    let given = match hex {
+        // As in a script.
+        Some("-") => Ok(Some(Octets::from_vec(Vec::new(rt.alloc())))),
+        Some(word) => octets_in(rt, Given::Word, word.as_bytes()),
+        None => {
+            let text = standard_text(rt)?;
+            octets_in(rt, Given::Input, text.as_slice())
+        }
+    };
+    Ok(given?)
+}
+
 // The text of standard input.
 //
 // Errors: `Read` if it can't be read, or has more than 16,777,216 octets; `Memory`.
@@ -221,8 +235,12 @@ fn octets_in(
             return Ok(None);
         }
     }
-    if digits.is_empty() {
+    if digits.is_empty() && given == Given::Input {
         return Ok(Some(Octets::from_vec(digits)));
+    }
+    if digits.is_empty() {
+        refuse_hex(rt, given.odd(rt, 0));
+        return Ok(None);
     }
     match read_hex(rt.alloc(), digits.as_slice()) {
         Ok(Some(octets)) => Ok(Some(octets)),

@@ -39,6 +39,7 @@ fn carry_packets<R: Machine>(
         lose: words.odds.lose,
         repeat: words.odds.repeat,
         damage: words.odds.damage,
+        headers: words.headers,
         delay: words.odds.delay,
     };
     let link = LossyLink {

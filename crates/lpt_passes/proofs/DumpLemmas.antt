@@ -83,7 +83,7 @@ opened_dump : (c : Config) (first : Contents) (xs : List Move) (name : Name) (m 
     → IsDumpedIn c first (pair_after c (came_to c first xs) (Do Apply)).ends.log to body
 opened_dump c first xs name m to body good can opens is =
     let p : Pair = came_to c first xs in
-    let but = (apart c first xs good can.0).but in
+    let but = (apart c first ⊥ xs good (λ u. absurd u) can.0).but in
     let w : Ends = but.whole in
     let k : Marks = but.on_craft in
     let f = but.less.leads.follows in

@@ -58,7 +58,7 @@ was_put : (c : Config) (first : Contents) (xs : List Move) (b : List ℕ)
     → IsOnTheWay (came_to c first xs).ends Down b
     → WasPut c first (came_to c first xs) b
 was_put c first xs b good can way =
-    let but = (apart c first xs good can).but in
+    let but = (apart c first ⊥ xs good (λ u. absurd u) can).but in
     let f = but.less.leads.follows in
     let es : List Act = f.events in
     let there : slice_get but.whole.on_the_way way.place ≡ Some way.packet =

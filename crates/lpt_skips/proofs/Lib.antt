@@ -1,3 +1,2 @@
-pub mod OwnLemmas
 pub mod TallyLemmas
 mod ToldLemmas

@@ -1,5 +1,5 @@
+pub mod Fitting
 pub mod Losses
-pub mod Own
 pub mod Skipping
 pub mod Tallies
 pub mod Told

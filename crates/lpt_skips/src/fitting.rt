@@ -1,7 +1,7 @@
 //! The part size by which a body would be read.
 
 ghost use Rattle.std.specs.Prelude.{◌≡◌};
-ghost use Rattle.lpt_skips.specs.Own.{fitting_size};
+ghost use Rattle.lpt_skips.specs.Fitting.{fitting_size};
 
 use lpt_part::{Kind, read_part};
 

@@ -1,12 +1,10 @@
-//! What a reader of parts passes over, by a layout or by the profile: how many pieces of a stream,
-//! and why.
+//! What a reader of parts of a layout passes over: how many pieces of a stream, and why.
 //!
 //! The main type is `Skips`. The first calls are `Skips::new`, then `note` with each piece, and
 //! `lines` for what is to be told.
 #![tactic(auto)]
 
 mod fitting;
-pub mod laws;
 mod lines;
 mod skips;
 mod sorting;

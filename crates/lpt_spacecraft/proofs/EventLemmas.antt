@@ -8,8 +8,9 @@ use Rattle.lpt_text.proofs.StreamLemmas.{part_whole}
 use Rattle.lpt_stream.specs.Pieces.{up_to_limit}
 use Rattle.lpt_stream.specs.Streams.{all_octets}
 use Rattle.lpt_spacecraft.specs.Flights.{FlightEvent, Flight, Made, Packet, came_with, clock_ticks, counted_on, dues_of, inputs_by, inputs_of, new_flight, onward, inputs_served, stretches_of}
+use Rattle.lpt_spacecraft.specs.Fronts.{StandsSo}
 use Rattle.lpt_spacecraft.specs.Streams.{flight_of, length_of, onboard, plain, served_by, Answers, Breaks, BreaksOff, Flies, Serves}
-use Rattle.lpt_spacecraft.specs.Stretches.{IsFrame}
+use Rattle.lpt_spacecraft.specs.Stretches.{Framed}
 use Rattle.lpt_spacecraft.specs.declared.pace.PaceCourse.{PaceCourse}
 use Rattle.lpt_spacecraft.specs.declared.pace.Pace.{Pace}
 use Rattle.lpt_spacecraft.specs.declared.spacecraft.Spacecraft.{Spacecraft}
@@ -32,11 +33,11 @@ pub record Ends : Type 0 where
 
 -- the events that came were taken, and these octets are held behind them
 pub record IsServed (pace : Pace) (s t : Spacecraft) (q : PaceCourse) (e : Ends) (held : List ℕ)
-    (ended : Bool) (count place : ℕ) : Type 0 where
+    (ended step : Bool) (count place : ℕ) : Type 0 where
   pub stream : List ℕ
   pub events : List FlightEvent
   pub consumed : Consumes e.before e.after stream
-  pub cut : IsCutSoFar pace.passing stream (stretches_of events) ended held
+  pub cut : IsCutSoFar pace.passing stream (stretches_of events) ended step held
   pub flies : Flies (served_by pace s events) t q e.old e.new e.had e.has
   pub answers : Answers pace.clocked e.asked e.answered (dues_of events)
   pub count_is : length events ≡ count
@@ -47,8 +48,9 @@ pub record IsServed (pace : Pace) (s t : Spacecraft) (q : PaceCourse) (e : Ends)
 
 -- none came
 pub served-none : (pace : Pace) (s : Spacecraft) (q : PaceCourse) (a old asked : Option (List ℕ))
-    (had : Option (List Told)) (held : List ℕ) (ended : Bool)
+    (had : Option (List Told)) (held : List ℕ) (ended step : Bool)
     → held ≡ []
+    → step ≡ true
     → q.pace ≡ pace
     → q.since ≡ 0
     → q.uses.items ≡ []
@@ -62,12 +64,12 @@ pub served-none : (pace : Pace) (s : Spacecraft) (q : PaceCourse) (a old asked :
       answered = asked;
       had = had;
       has = had;
-    }) held ended 0 0
-served-none pace s q a old asked had held ended none paced since unused = record {
+    }) held ended step 0 0
+served-none pace s q a old asked had held ended step none on paced since unused = record {
   stream = [];
   events = [];
   consumed = Consumes-nil a;
-  cut = so-far-none pace.passing ended held none;
+  cut = so-far-none pace.passing ended step held none on;
   flies = record {
     flight = λ i. record { end = onboard s; reuse = (paced i).reuse; uses = unused i };
     written = Appends-nil old;
@@ -215,21 +217,21 @@ asks-next is_asked a b d events due octets h k =
     (answers-more is_asked a b d (dues_of events) (due ∷ []) h k)
 
 -- with more read behind, after all that was written was passed on
-pub served-more : (pace : Pace) (s t : Spacecraft) (q : PaceCourse) (e : Ends)
+pub served-more : {step : Bool} (pace : Pace) (s t : Spacecraft) (q : PaceCourse) (e : Ends)
     (d passed : Option (List ℕ)) (held read left : List ℕ) (ended now : Bool) (count place : ℕ)
-    → IsServed pace s t q e held ended count place
+    → IsServed pace s t q e held ended step count place
     → Consumes e.after d read
     → (ended ≡ true → (now ≡ true) × (read ≡ []))
     → left ≡ held ++ read
     → Keeps e.new passed
-    → IsServed pace s t q (record e { after = d; new = passed }) left now count place
+    → IsServed pace s t q (record e { after = d; new = passed }) left now step count place
 served-more pace s t q e d passed held read left ended now count place h more stays is kept =
     record {
       stream = h.stream ++ read;
       events = h.events;
       consumed = Consumes-trans e.before e.after d h.stream read h.consumed more;
-      cut = so-far-more pace.passing h.stream (stretches_of h.events) ended now held read left h.cut
-          stays is;
+      cut = so-far-more pace.passing h.stream (stretches_of h.events) ended now _ held read left
+          h.cut stays is;
       flies = record {
         flight = h.flies.flight;
         written = Appends-kept e.old e.new passed (all_octets (served_by pace s h.events).packets)
@@ -247,10 +249,10 @@ served-more pace s t q e d passed held read left ended now count place h more st
 -- and with the packet in front taken
 pub served-next : (pace : Pace) (s mid t : Spacecraft) (q r : PaceCourse) (c : Config) (e : Ends)
     (new answered : Option (List ℕ)) (has : Option (List Told))
-    (held now octets : List ℕ) (ended over : Bool) (due count place len then : ℕ)
-    → IsServed pace s mid q e held ended count place
+    (held now octets : List ℕ) (ended over step on : Bool) (due count place len then : ℕ)
+    → IsServed pace s mid q e held ended step count place
     → c ≡ s.config
-    → IsFrame (take len held)
+    → StandsSo pace.passing step ended held (Framed (take len held)) true (drop len held)
     → len ≤ length held
     → octets ≡ take len held
     → Answers pace.clocked e.answered answered (due ∷ [])
@@ -260,32 +262,33 @@ pub served-next : (pace : Pace) (s mid t : Spacecraft) (q r : PaceCourse) (c : C
     → then ≡ min (place + len) (2 ^ 64 - 1)
     → now ≡ drop len held
     → over ≡ ended
-    → IsServed pace s t r (record e { new = new; answered = answered; has = has }) now over
+    → on ≡ true
+    → IsServed pace s t r (record e { new = new; answered = answered; has = has }) now over on
     (count + 1) then
-served-next pace s mid t q r c e new answered has held now octets ended over due count place len
-    then h same front within is asks flies counted paced placed left stays =
+served-next pace s mid t q r c e new answered has held now octets ended over step on due count place
+    len then h same front within is asks flies counted paced placed left stays stepped =
     let x = Packet due (take len held) in
-    let on : r.since ≡ counted_on pace.every q.since =
+    let since_on : r.since ≡ counted_on pace.every q.since =
     counted ∙ ap (λ (p : Pace). counted_on p.every q.since) h.pace_is in
     let fits : length (take len held) ≡ len = length-take-le len held within in
     record {
       stream = h.stream;
       events = h.events ++ x ∷ [];
       consumed = h.consumed;
-      cut = subst (λ ss. IsCutSoFar pace.passing h.stream ss over now)
+      cut = subst (λ ss. IsCutSoFar pace.passing h.stream ss over on now)
           (sym (stretches-next h.events x))
-          (so-far-frame pace.passing h.stream (stretches_of h.events) ended over held now len h.cut
-          front left stays);
+          (so-far-frame pace.passing h.stream (stretches_of h.events) ended over step on held now
+          len h.cut front left stays stepped);
       flies = flies-next pace s mid t q r c e.old e.new new e.had e.has has h.events due
           (take len held) h.since_is h.pace_is same h.flies
           (subst (λ o. Flies (made_next c q.pace mid q due o) t r e.new new e.has has) is flies);
       answers = asks-next pace.clocked e.asked e.answered answered h.events due (take len held)
           h.answers asks;
       count_is = length-append h.events (x ∷ []) ∙ ap (λ n. n + 1) h.count_is;
-      since_is = on ∙ ap (counted_on pace.every) h.since_is
+      since_is = since_on ∙ ap (counted_on pace.every) h.since_is
           ∙ sym (since-next pace.every 0 h.events x);
       pace_is = paced ∙ h.pace_is;
       place_is = place-next h.events x place then len h.place_is
           (length-next h.events x ∙ ap (λ n. length_of h.events + n) fits) placed;
-      few = subst (λ n. n ≤ count + 1) (sym on) (counted-few pace.every q.since count x h.few);
+      few = subst (λ n. n ≤ count + 1) (sym since_on) (counted-few pace.every q.since count x h.few);
     }

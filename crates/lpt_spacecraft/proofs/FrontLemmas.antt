@@ -1,292 +1,285 @@
--- What stands in front of a stream that is cut by lengths.
-use Rattle.std.proofs.Common.{◌≡◌, ◌∙◌, ap, sym, refl, subst, ℕ, zero, suc, ◌+◌, ◌*◌, ◌/◌, ◌<◌, ◌≤◌, ◌==◌, ◌&&◌, nat_lt, Bool, true, false, if◌then◌else◌, List, [], ◌∷◌, ◌++◌, length, take, drop, Option, Some, None, arith, append-nil, length-append, length-take, take-append-drop}
-use Rattle.std.specs.Prelude.{slice_index}
-use Rattle.std.proofs.lemmas.Bool.Decides.{nat_tests}
-use Rattle.std.proofs.lemmas.List.{length-take-le}
-use Rattle.lpt_packet.specs.Numbers.{word_at, IsOctets}
-use Rattle.lpt_packet.proofs.BoolLemmas.{and_both, and_left, and_right, le_true}
-use Rattle.lpt_packet.proofs.OctetLists.{IsOctets-take}
-use Rattle.lpt_packet.proofs.Readings.{eq_true, true_eq}
-use Rattle.lpt_stream.specs.Buffers.{cut_of, found_piece, is_ended, is_in_step, octets_held, IsInFront}
-use Rattle.lpt_stream.specs.Pieces.{Piece, begins_by, first_fits, flags_fit, is_framed, is_version, lookahead, may_begin, piece_by, size_fits, size_in}
-use Rattle.lpt_stream.specs.Streams.{IsUnfinished}
+-- What stands in front of a stream, as a search finds it.
+use Rattle.std.proofs.Common.{◌≡◌, ◌∙◌, ap, sym, subst, refl, inl, inr, ℕ, ◌<◌, ◌≤◌, ◌&&◌, Bool, true, false, List, [], ◌∷◌, ◌++◌, length, take, drop, Option, Some, None, Ok, append_assoc, length-append, arith}
+use Rattle.std.proofs.lemmas.List.{drop-append-le, length-take-le, take-append-drop}
+use Rattle.lpt_packet.proofs.BoolLemmas.{and_left, and_right}
+use Rattle.lpt_stream.specs.Buffers.{cut_of, found_piece, is_ended, is_in_step, octets_held, FindsPassing, IsInFront}
+use Rattle.lpt_stream.specs.Pieces.{LeadsBy, Piece, is_awaited, keeps_step, piece_by, up_to_limit}
+use Rattle.lpt_stream.specs.Streams.{length_at}
 use Rattle.lpt_stream.specs.declared.buffer.PacketBuffer.{PacketBuffer}
 use Rattle.lpt_stream.specs.declared.cut.Cut.TheVariants.{Resumed}
 use Rattle.lpt_stream.specs.declared.found.Found.{Found}
 use Rattle.lpt_stream.specs.declared.piece_kind.PieceKind.{PieceKind}
 use Rattle.lpt_stream.specs.declared.piece_kind.PieceKind.TheVariants.{Whole, Damaged, Stray}
-use Rattle.lpt_stream.proofs.PieceLemmas.{framed_fits}
-use Rattle.lpt_stream.proofs.StreamLemmas.{word_at-front}
-use Rattle.lpt_spacecraft.specs.Fronts.{is_packet}
-use Rattle.lpt_spacecraft.specs.Stretches.{IsFrame, IsFront}
-use Rattle.lpt_spacecraft.proofs.AgainLemmas.{unfinished-near}
+use Rattle.lpt_spacecraft.specs.Fronts.{FindsFront, IsCutting, PassesOver, StandsSo}
+use Rattle.lpt_spacecraft.specs.Streams.{IsNotTaken, StopsAt}
+use Rattle.lpt_spacecraft.specs.Stretches.{Passed, is_stray, is_taken, strays_of}
+use Rattle.lpt_spacecraft.specs.declared.front.Front.{Front}
+use Rattle.lpt_spacecraft.specs.declared.front.Front.TheVariants as fronts
+use Rattle.lpt_spacecraft.specs.declared.passing.Passing.{Passing}
+use Rattle.lpt_spacecraft.specs.declared.stop.Stop.TheVariants as stops
+use Rattle.lpt_spacecraft.proofs.SearchLemmas.{cutting-more, reads-goes, reads-more, reads-then}
 
--- a buffer that cuts by lengths, in step
-pub record IsInStep (p : PacketBuffer) : Type 0 where
-  pub cut_is : cut_of p ≡ Resumed
-  pub step_is : is_in_step p ≡ true
-
--- what is in front of it, whatever comes behind
-front-as-held : (p : PacketBuffer) (f : Found) (more : List ℕ)
-    → IsInStep p
-    → IsInFront p f
-    → (is_ended p ≡ true → more ≡ [])
-    → piece_by Resumed true (octets_held p ++ more) ≡ found_piece p f
-front-as-held p f more h front last =
-    sym (ap (λ c. piece_by c (is_in_step p) (octets_held p ++ more)) h.cut_is
-    ∙ ap (λ s. piece_by Resumed s (octets_held p ++ more)) h.step_is)
-    ∙ front.is more last
-
--- and as it is
-front-now : (p : PacketBuffer) (f : Found)
-    → IsInStep p
-    → IsInFront p f
-    → piece_by Resumed true (octets_held p) ≡ found_piece p f
-front-now p f h front =
-    ap (piece_by Resumed true) (sym (append-nil (octets_held p)))
-    ∙ front-as-held p f [] h front (λ e. refl)
-
-pub apart : (t : Bool) → t ≡ true → t ≡ false → ⊥
+apart : (t : Bool) → t ≡ true → t ≡ false → ⊥
 apart t h k = cc
 
--- ---- lengths
+-- ---- a piece
 
--- a kind, by whether a packet begins
-abbrev kind_begun : (begun : Bool) → PieceKind
-kind_begun t = if t then Whole else if true && false then Damaged else Stray
+-- a piece in front, as it leads on, whatever comes
+leads-one : (p : Passing) (b : PacketBuffer) (a : Option (List ℕ)) (f : Found) (k : PieceKind)
+    → IsCutting p b a
+    → IsInFront b f
+    → f.kind ≡ k
+    → (more : List ℕ) → (is_ended b ≡ true → more ≡ [])
+    → LeadsBy (Resumed p.longest) (is_in_step b) (octets_held b ++ more)
+    (record { kind = k; octets = take f.len (octets_held b) } ∷ []) (keeps_step k)
+    (drop f.len (octets_held b) ++ more)
+leads-one p b a f k h front is more last =
+    let size = length-append (octets_held b) more in
+    let some = front.some in (
+      omega (arith, some, size),
+      sym (ap (λ c. piece_by c (is_in_step b) (octets_held b ++ more)) (sym h.cut_is)
+          ∙ front.is more last
+          ∙ (λ i. record { kind = is i; octets = take f.len (octets_held b) })),
+      (
+        refl,
+        ap (λ n. drop n (octets_held b ++ more)) (length-take-le f.len (octets_held b) front.within)
+            ∙ drop-append-le f.len (octets_held b) more front.within,
+      ),
+    )
 
-begun-packet : (t : Bool) (k : PieceKind) → kind_begun t ≡ k → is_packet k ≡ true → t ≡ true
-begun-packet true k h e = refl
-begun-packet false Whole h e = absurd cc
-begun-packet false Damaged h e = absurd cc
-begun-packet false Stray h e = absurd cc
+behind-front : (n : ℕ) (b more : List ℕ) → b ++ more ≡ take n b ++ (drop n b ++ more)
+behind-front n b more =
+    ap (λ x. x ++ more) (sym (take-append-drop n b)) ∙ append_assoc (take n b) (drop n b) more
 
-unbegun-other : (t : Bool) (k : PieceKind) → kind_begun t ≡ k → is_packet k ≡ false → t ≡ false
-unbegun-other true Whole h e = absurd cc
-unbegun-other true Damaged h e = absurd cc
-unbegun-other true Stray h e = absurd cc
-unbegun-other false k h e = refl
+-- what is taken is in step
+taken-step : (p : Passing) (k : PieceKind) (b : List ℕ) → is_taken p k b ≡ true
+    → keeps_step k ≡ true
+taken-step p Whole b e = refl
+taken-step p Damaged b e = refl
+taken-step p Stray b e = absurd cc
 
--- the version stands in the first octet
-pub version-taken : (n : ℕ) (b : List ℕ) → 0 < n → is_version (take n b) ≡ is_version b
-version-taken zero b h = absurd (omega arith)
-version-taken (suc n) [] h = refl
-version-taken (suc n) (x ∷ b) h = refl
+-- what is known of it, as it is held
+pub taken-as : (p : Passing) (k : PieceKind) (n : ℕ) (was now : List ℕ) (r v : Bool)
+    → r ≡ is_taken p k (take n was)
+    → was ≡ now
+    → r ≡ v
+    → is_taken p k (take n now) ≡ v
+taken-as p k n was now r v says is h =
+    ap (λ x. is_taken p k (take n x)) (sym is) ∙ sym says ∙ h
 
-pub version-front : (b more : List ℕ) → 0 < length b → is_version (b ++ more) ≡ is_version b
-version-front [] more h = absurd (omega arith)
-version-front (x ∷ b) more h = refl
+-- ---- what is in front
 
--- octets of another version are some
-pub stray-some : (b : List ℕ) → is_version b ≡ false → 0 < length b
-stray-some [] h = absurd cc
-stray-some (x ∷ b) h = omega arith
+-- nothing, at the end of the stream
+pub front-end : (p : Passing) (place : ℕ) (old new : PacketBuffer) (a b : Option (List ℕ))
+    (had failed : Bool)
+    → IsCutting p old a
+    → FindsPassing (Ok None) old new a b had failed
+    → FindsFront p place (Ok (fronts.Stop stops.End)) old new a b had failed
+front-end p place old new a b had failed cutting h =
+    let now = cutting-more p old new a b h.0 cutting h.1 in (
+      h.0,
+      reads-goes old new a b h.0 h.1,
+      now,
+      (λ n at. (sym h.1.added.behind ∙ h.2, now.ends h.3)),
+      h.4,
+    )
 
--- and the length in the first six
-pub length-taken : (n : ℕ) (b : List ℕ) → 6 ≤ length (take n b) → word_at (take n b) 4 ≡ word_at b 4
-length-taken n b h =
-    sym (word_at-front (take n b) (drop n b) h) ∙ ap (λ x. word_at x 4) (take-append-drop n b)
+-- a packet
+pub front-packet : (p : Passing) (place : ℕ) (f : Found) (old new : PacketBuffer)
+    (a b : Option (List ℕ)) (had failed : Bool)
+    → IsCutting p old a
+    → FindsPassing (Ok (Some f)) old new a b had failed
+    → is_taken p f.kind (take f.len (octets_held new)) ≡ true
+    → FindsFront p place (Ok (fronts.Packet f.len)) old new a b had failed
+front-packet p place f old new a b had failed cutting h taken =
+    let now = cutting-more p old new a b h.0 cutting h.1 in
+    let held = octets_held new in (
+      h.0,
+      reads-goes old new a b h.0 h.1,
+      now,
+      (
+        h.1.added.behind,
+        h.2.within,
+        (λ more last. record {
+          pieces = record { kind = f.kind; octets = take f.len held } ∷ [];
+          are = (f.kind, refl, taken);
+          leads = subst (λ s. LeadsBy (Resumed p.longest) s (held ++ more)
+              (record { kind = f.kind; octets = take f.len held } ∷ []) true
+              (drop f.len held ++ more)) h.1.added.step
+              (subst (λ t. LeadsBy (Resumed p.longest) (is_in_step new) (held ++ more)
+              (record { kind = f.kind; octets = take f.len held } ∷ []) t
+              (drop f.len held ++ more)) (taken-step p f.kind (take f.len held) taken)
+              (leads-one p new b f f.kind now h.2 refl more last));
+          whole = behind-front f.len held more;
+        }),
+      ),
+      h.3,
+    )
 
--- no packet is longer than these octets
-framed-enough : (b : List ℕ) → IsOctets b → 65542 ≤ length b → is_framed b ≡ true
-framed-enough b o long =
-    let high = o 4 in
-    let low = o (4 + 1) in
-    le_true (7 + word_at b 4) (length b) (omega (arith, high, low, long))
+-- one that is cut off
+pub front-cut : (p : Passing) (place : ℕ) (said : Option ℕ) (f : Found) (old new : PacketBuffer)
+    (a b : Option (List ℕ)) (had failed : Bool)
+    → IsCutting p old a
+    → FindsPassing (Ok (Some f)) old new a b had failed
+    → said ≡ length_at (octets_held new)
+    → (is_ended new && is_awaited p.longest (octets_held new)) ≡ true
+    → FindsFront p place (Ok (fronts.Stop (stops.Cut place said))) old new a b had failed
+front-cut p place said f old new a b had failed cutting h says off =
+    let now = cutting-more p old new a b h.0 cutting h.1 in (
+      h.0,
+      reads-goes old new a b h.0 h.1,
+      now,
+      (λ n at. subst (λ rest. StopsAt p (stops.Cut place said) n rest b) h.1.added.behind (
+        at,
+        says,
+        h.2.some,
+        and_right (is_ended new) (is_awaited p.longest (octets_held new)) off,
+        now.ends (and_left (is_ended new) (is_awaited p.longest (octets_held new)) off),
+      )),
+      h.3,
+    )
 
--- ---- a packet in front
+-- in step, as it isn't taken, whatever comes
+not-there : (p : Passing) (b : PacketBuffer) (a : Option (List ℕ)) (f : Found)
+    → IsCutting p b a
+    → IsInFront b f
+    → p.is_on ≡ false
+    → is_taken p f.kind (take f.len (octets_held b)) ≡ false
+    → IsNotTaken p (octets_held b) a
+not-there p b a f h front off other =
+    λ more last.
+    let there : piece_by (Resumed p.longest) true (octets_held b ++ more) ≡ found_piece b f =
+    ap (λ c. piece_by c true (octets_held b ++ more)) (sym h.cut_is)
+    ∙ ap (λ s. piece_by (cut_of b) s (octets_held b ++ more)) (sym (h.step_is off))
+    ∙ front.is more (λ e. last (h.ends e)) in
+    ap (λ (q : Piece). is_taken p q.kind q.octets) there ∙ other
 
-pub record HasPacket (b : List ℕ) (len : ℕ) : Type 0 where
-  pub within : len ≤ length b
-  pub frame : IsFrame (take len b)
+-- what is no packet, before which the stream stops
+pub front-stray : (p : Passing) (place : ℕ) (said : Option ℕ) (f : Found)
+    (old new : PacketBuffer) (a b : Option (List ℕ)) (had failed : Bool)
+    → IsCutting p old a
+    → FindsPassing (Ok (Some f)) old new a b had failed
+    → said ≡ length_at (octets_held new)
+    → is_taken p f.kind (take f.len (octets_held new)) ≡ false
+    → p.is_on ≡ false
+    → FindsFront p place (Ok (fronts.Stop (stops.Stray place said))) old new a b had failed
+front-stray p place said f old new a b had failed cutting h says other off =
+    let now = cutting-more p old new a b h.0 cutting h.1 in (
+      h.0,
+      reads-goes old new a b h.0 h.1,
+      now,
+      (λ n at. subst (λ rest. StopsAt p (stops.Stray place said) n rest b) h.1.added.behind
+          (at, says, off, not-there p new b f now h.2 off other)),
+      h.3,
+    )
 
-sized : (b : List ℕ) (n m : ℕ) → n ≤ length b → m ≤ length b → take n b ≡ take m b → n ≡ m
-sized b n m hn hm e =
-    sym (length-take-le n b hn) ∙ ap (λ (x : List ℕ). length x) e ∙ length-take-le m b hm
+damaged-kind : (p : Passing) (k : PieceKind) (b : List ℕ) → is_taken p k b ≡ false
+    → is_stray k ≡ false
+    → k ≡ Damaged
+damaged-kind p Whole b h e = absurd cc
+damaged-kind p Damaged b h e = refl
+damaged-kind p Stray b h e = absurd cc
 
-has-packet : (b : List ℕ) (n : ℕ)
-    → (is_version (take lookahead b) && is_framed (take lookahead b)) ≡ true
-    → n ≤ length b
-    → take (7 + word_at (take lookahead b) 4) b ≡ take n b
-    → HasPacket b n
-has-packet b n begun within e =
-    let near = take lookahead b in
-    let fits = framed_fits near (and_right (is_version near) (is_framed near) begun) in
-    let size = length-take lookahead b in
-    let len : 7 + word_at near 4 ≡ n =
-    sized b (7 + word_at near 4) n (omega (arith, fits, size)) within e in
-    let long = length-take-le n b within in
-    let word : word_at (take n b) 4 ≡ word_at near 4 =
-    length-taken n b (omega (arith, long, len))
-    ∙ sym (length-taken lookahead b (omega (arith, fits))) in
+-- or which was passed over as a damaged packet
+pub front-damaged : (p : Passing) (place : ℕ) (f : Found) (old mid new : PacketBuffer)
+    (a b : Option (List ℕ)) (had failed : Bool)
+    → IsCutting p old a
+    → FindsPassing (Ok (Some f)) old mid a b had failed
+    → is_taken p f.kind (take f.len (octets_held mid)) ≡ false
+    → p.is_on ≡ true
+    → is_stray f.kind ≡ false
+    → octets_held new ≡ drop f.len (octets_held mid)
+    → cut_of new ≡ cut_of mid
+    → is_in_step new ≡ keeps_step f.kind
+    → is_ended new ≡ is_ended mid
+    → FindsFront p place (Ok (fronts.Strays f.len)) old new a b had failed
+front-damaged p place f old mid new a b had failed cutting h other on whole held cut step end =
+    let now = cutting-more p old mid a b h.0 cutting h.1 in
+    let all = octets_held old ++ h.0 in
+    let kind : f.kind ≡ Damaged =
+    damaged-kind p f.kind (take f.len (octets_held mid)) other whole in
+    let was : octets_held mid ≡ all = h.1.added.behind in
+    let within : f.len ≤ length all = subst (λ x. f.len ≤ length x) was h.2.within in
+    let size = length-take-le f.len all within in
+    let some = h.2.least in (
+      h.0,
+      reads-then old mid new a b h.0 (reads-goes old mid a b h.0 h.1) cut end,
+      record {
+        cut_is = cut ∙ now.cut_is;
+        step_is = λ off. absurd (apart p.is_on on off);
+        ends = λ e. now.ends (sym end ∙ e);
+      },
+      (
+        held ∙ ap (drop f.len) was,
+        within,
+        (λ more last. record {
+          pieces = record { kind = Damaged; octets = take f.len all } ∷ [];
+          are = (on, omega (arith, size, some), inl refl);
+          leads = subst (λ x. LeadsBy (Resumed p.longest) (is_in_step old) (x ++ more)
+              (record { kind = Damaged; octets = take f.len x } ∷ []) (is_in_step new)
+              (drop f.len x ++ more)) was
+              (subst (λ s. LeadsBy (Resumed p.longest) s (octets_held mid ++ more)
+              (record { kind = Damaged; octets = take f.len (octets_held mid) } ∷ [])
+              (is_in_step new) (drop f.len (octets_held mid) ++ more)) h.1.added.step
+              (subst (λ t. LeadsBy (Resumed p.longest) (is_in_step mid) (octets_held mid ++ more)
+              (record { kind = Damaged; octets = take f.len (octets_held mid) } ∷ []) t
+              (drop f.len (octets_held mid) ++ more)) (sym (step ∙ ap keeps_step kind))
+              (leads-one p mid b f Damaged now h.2 kind more (λ e. last (end ∙ e)))));
+          whole = behind-front f.len all more;
+        }),
+      ),
+      h.3,
+    )
+
+-- or as octets astray
+pub front-strays : (p : Passing) (place len : ℕ) (f : Found) (old mid new : PacketBuffer)
+    (a b d : Option (List ℕ)) (had told failed : Bool)
+    → IsCutting p old a
+    → FindsPassing (Ok (Some f)) old mid a b had told
+    → p.is_on ≡ true
+    → PassesOver p (Ok len) mid new b d told failed
+    → FindsFront p place (Ok (fronts.Strays len)) old new a d had failed
+front-strays p place len f old mid new a b d had told failed cutting h on run =
+    let now = cutting-more p old mid a b h.0 cutting h.1 in
+    let w = octets_held mid ++ run.0 in
+    let all : w ≡ octets_held old ++ (h.0 ++ run.0) =
+    ap (λ x. x ++ run.0) h.1.added.behind ∙ append_assoc (octets_held old) h.0 run.0 in
+    let size = length-take-le len w run.4 in
+    let some = run.3 in
+    let stands : StandsSo p (is_in_step mid) (is_ended new) w (Passed (take len w)) (is_in_step new)
+    (drop len w) =
+    λ more last.
+    let led = run.5 more last in
     record {
-      within = within;
-      frame = record {
-        framed = record {
-          headed = omega (arith, long, len);
-          whole = long ∙ sym len ∙ ap (λ w. 7 + w) (sym word);
-        };
-        version = version-taken n b (omega (arith, len))
-            ∙ sym (version-taken lookahead b (omega arith))
-            ∙ and_left (is_version near) (is_framed near) begun;
-      };
-    }
+      pieces = strays_of (take len w);
+      are = (on, omega (arith, size, some), inr (refl, led.1));
+      leads = led.0;
+      whole = behind-front len w more;
+    } in (
+      h.0 ++ run.0,
+      reads-more old mid new a b d h.0 run.0 (reads-goes old mid a b h.0 h.1) run.1,
+      record {
+        cut_is = run.1.cut ∙ now.cut_is;
+        step_is = λ off. absurd (apart p.is_on on off);
+        ends = run.1.at_end now.ends;
+      },
+      (
+        run.2 ∙ ap (drop len) all,
+        subst (λ x. len ≤ length x) all run.4,
+        subst (λ s. StandsSo p s (is_ended new) (octets_held old ++ (h.0 ++ run.0))
+            (Passed (take len (octets_held old ++ (h.0 ++ run.0)))) (is_in_step new)
+            (drop len (octets_held old ++ (h.0 ++ run.0)))) h.1.added.step
+            (subst (λ x. StandsSo p (is_in_step mid) (is_ended new) x (Passed (take len x))
+            (is_in_step new) (drop len x)) all stands),
+      ),
+      run.6 ∙ h.3,
+    )
 
-begun-there : (b : List ℕ) (k : PieceKind) (n : ℕ)
-    → piece_by Resumed true b ≡ record { kind = k; octets = take n b }
-    → is_packet k ≡ true
-    → n ≤ length b
-    → HasPacket b n
-unfolding piece_by
-begun-there b k n same packet within =
-    let begun : begins_by Resumed true (take lookahead b) ≡ true =
-    begun-packet (begins_by Resumed true (take lookahead b)) k
-    (ap (λ (p : Piece). p.kind) same) packet in
-    has-packet b n begun within
-    (sym (ap (λ t. take (size_in (kind_begun t) (take lookahead b)) b) begun)
-    ∙ ap (λ (p : Piece). p.octets) same)
-
--- a packet was found
-pub packet-there : (p : PacketBuffer) (f : Found)
-    → IsInStep p
-    → IsInFront p f
-    → is_packet f.kind ≡ true
-    → HasPacket (octets_held p) f.len
-packet-there p f h front packet =
-    begun-there (octets_held p) f.kind f.len (front-now p f h front) packet front.within
-
--- ---- none in front
-
--- octets that may still come
-zeros : ℕ → List ℕ
-zeros zero = []
-zeros (suc n) = 0 ∷ zeros n
-
-length-zeros : (n : ℕ) → length (zeros n) ≡ n
-unfolding zeros
-length-zeros zero = refl
-length-zeros (suc n) = ap suc (length-zeros n)
-
-octets-zeros : (b : List ℕ) (n : ℕ) → IsOctets b → IsOctets (b ++ zeros n)
-unfolding zeros
-octets-zeros [] zero o i = omega arith
-octets-zeros [] (suc n) o zero = omega arith
-octets-zeros [] (suc n) o (suc i) = octets-zeros [] n o i
-octets-zeros (x ∷ b) n o zero = o 0
-octets-zeros (x ∷ b) n o (suc i) = octets-zeros b n (λ j. o (suc j)) i
-
--- where the version is right, a packet begins once enough octets have come
-begun-yet : (b : List ℕ) (n : ℕ)
-    → IsOctets b
-    → 0 < length b
-    → is_version b ≡ true
-    → 65542 ≤ n
-    → begins_by Resumed true (take lookahead (b ++ zeros n)) ≡ true
-begun-yet b n o some version enough =
-    let all = b ++ zeros n in
-    let near = take lookahead all in
-    let size = length-take lookahead all in
-    let sum = length-append b (zeros n) in
-    and_both (is_version near) (is_framed near)
-    (version-taken lookahead all (omega arith) ∙ version-front b (zeros n) some ∙ version)
-    (framed-enough near (IsOctets-take lookahead all (octets-zeros b n o))
-    (omega (arith, size, sum, length-zeros n, enough)))
-
--- so what is no packet, whatever comes, has another version
-never-begun : (b : List ℕ) (n : ℕ) (k : PieceKind) (o : List ℕ)
-    → IsOctets b
-    → 0 < length b
-    → is_version b ≡ true
-    → 65542 ≤ n
-    → is_packet k ≡ false
-    → piece_by Resumed true (b ++ zeros n) ≡ record { kind = k; octets = o }
-    → ⊥
-unfolding piece_by
-never-begun b n k o octets some version enough other e =
-    let begun = begun-yet b n octets some version enough in
-    let none = unbegun-other (begins_by Resumed true (take lookahead (b ++ zeros n))) k
-    (ap (λ (p : Piece). p.kind) e) other in
-    apart (begins_by Resumed true (take lookahead (b ++ zeros n))) begun none
-
--- the stream has ended, where one begins and not all of its octets are there
-pub record IsCutOff (p : PacketBuffer) : Type 0 where
-  pub some : 0 < length (octets_held p)
-  pub unfinished : IsUnfinished (octets_held p)
-  pub ended : is_ended p ≡ true
-
-cut-there : (b : List ℕ) (k : PieceKind) (o : List ℕ)
-    → IsOctets b
-    → is_version b ≡ true
-    → is_packet k ≡ false
-    → piece_by Resumed true b ≡ record { kind = k; octets = o }
-    → IsUnfinished b
-unfolding piece_by
-cut-there b k o octets version other same =
-    let near = take lookahead b in
-    let none : (is_version near && is_framed near) ≡ false =
-    unbegun-other (begins_by Resumed true near) k (ap (λ (p : Piece). p.kind) same) other in
-    let is = version-taken lookahead b (omega arith) ∙ version in
-    unfinished-near b octets (sym (ap (λ v. v && is_framed near) is) ∙ none)
-
--- no packet was found
-pub other-there : (p : PacketBuffer) (f : Found)
-    → IsInStep p
-    → IsInFront p f
-    → IsOctets (octets_held p)
-    → is_packet f.kind ≡ false
-    → is_version (octets_held p) ≡ true
-    → IsCutOff p
-other-there p f h front octets other version = record {
-  some = front.some;
-  unfinished = cut-there (octets_held p) f.kind (take f.len (octets_held p)) octets version other
-      (front-now p f h front);
-  ended = go (is_ended p) refl;
-}
-  where
-    go : (e : Bool) → is_ended p ≡ e → is_ended p ≡ true
-    go true e = e
-    go false e =
-        absurd (never-begun (octets_held p) 65542 f.kind (take f.len (octets_held p)) octets
-        front.some version (omega arith) other
-        (front-as-held p f (zeros 65542) h front (λ k. absurd (apart (is_ended p) k e))))
-
--- ---- less than a packet
-
-pub first-version : (x y : ℕ) → (256 * x + y) / 8192 ≡ 0 → x / 32 ≡ 0
-first-version x y h = omega (arith, h)
-
--- what may begin a packet has version 0
-pub may-version : (b : List ℕ) → may_begin b ≡ true → is_version b ≡ true
-may-version b h =
-    let front = and_left (first_fits b && flags_fit b) (size_fits b) h in
-    let first = and_left (first_fits b) (flags_fit b) front in
-    let zero : word_at b 0 / 8192 ≡ 0 =
-    true_eq (word_at b 0 / 8192) 0 (and_left (word_at b 0 / 8192 == 0) _ first) in
-    eq_true (slice_index b 0 / 32) 0
-    (first-version (slice_index b 0) (slice_index b (0 + 1)) zero)
-
-pub unpacked : (b : List ℕ) (len : ℕ) → HasPacket b len → IsUnfinished b → ⊥
-unpacked b len h less =
-    let long = length-take-le len b h.within in
-    let headed = h.frame.framed.headed in
-    let whole = h.frame.framed.whole in
-    let word = length-taken len b headed in
-    few (length b) (word_at b 4) less (omega (arith, long, headed, h.within))
-    (omega (arith, long, whole, word, h.within))
-  where
-    few : (n w : ℕ) → n < (if nat_lt n 6 then 6 else 7 + w) → 6 ≤ n → 7 + w ≤ n → ⊥
-    few n w h k l = grind (arith, h, k, l)
-
--- where less than one is there, the stream has ended
-pub ended-there : (p : PacketBuffer) (f : Found)
-    → IsInStep p
-    → IsInFront p f
-    → IsOctets (octets_held p)
-    → IsFront (octets_held p)
-    → is_ended p ≡ true
-ended-there p f h front octets less = go (is_packet f.kind) refl
-  where
-    go : (t : Bool) → is_packet f.kind ≡ t → is_ended p ≡ true
-    go true e = absurd (unpacked (octets_held p) f.len (packet-there p f h front e) less.0)
-    go false e =
-        (other-there p f h front octets e (may-version (octets_held p) less.1)).ended
+-- what a search gave
+pub front-as : (p : Passing) (place : ℕ) (given was : Front) (old new : PacketBuffer)
+    (a b : Option (List ℕ)) (had failed : Bool)
+    → was ≡ given
+    → FindsFront p place (Ok was) old new a b had failed
+    → FindsFront p place (Ok given) old new a b had failed
+front-as p place given was old new a b had failed is h =
+    subst (λ (f : Front). FindsFront p place (Ok f) old new a b had failed) is h

@@ -1,4 +1,3 @@
-pub mod AgainLemmas
 pub mod ChangeLemmas
 pub mod EventLemmas
 pub mod FileLemmas

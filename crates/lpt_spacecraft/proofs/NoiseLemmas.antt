@@ -1,11 +1,12 @@
 -- Octets that are passed over, and told of.
-use Rattle.std.proofs.Common.{◌≡◌, ◌∙◌, ap, sym, subst, refl, ℕ, ◌+◌, ◌-◌, ◌^◌, min, Bool, true, List, [], ◌∷◌, ◌++◌, length, take, drop, Option, append-nil, length-append, zero-add, arith}
+use Rattle.std.proofs.Common.{◌≡◌, ◌∙◌, ap, sym, subst, refl, ℕ, ◌+◌, ◌-◌, ◌^◌, ◌≤◌, min, Bool, List, [], ◌∷◌, ◌++◌, length, take, drop, Option, append-nil, length-append, zero-add, arith}
 use Rattle.std.proofs.KnownBytes.{Appends-nil}
 use Rattle.std.proofs.lemmas.List.{length-take-le}
 use Rattle.lpt_stream.specs.Pieces.{up_to_limit}
 use Rattle.lpt_spacecraft.specs.Flights.{Astray, FlightEvent, Made, Noise, dues_of, onward, inputs_served, stretches_of}
-use Rattle.lpt_spacecraft.specs.Fronts.{RunsTo}
+use Rattle.lpt_spacecraft.specs.Fronts.{StandsSo}
 use Rattle.lpt_spacecraft.specs.Streams.{flight_of, length_of, served_by, Answers, Flies}
+use Rattle.lpt_spacecraft.specs.Stretches.{Passed}
 use Rattle.lpt_spacecraft.specs.Telling.{Hears}
 use Rattle.lpt_spacecraft.specs.declared.pace.PaceCourse.{PaceCourse}
 use Rattle.lpt_spacecraft.specs.declared.pace.Pace.{Pace}
@@ -14,7 +15,7 @@ use Rattle.lpt_spacecraft.specs.declared.told.Told.{Told}
 use Rattle.lpt_spacecraft.specs.declared.told.Told.TheVariants as tells
 use Rattle.lpt_spacecraft.proofs.FoldLemmas.{dues-next, flies-then, length-next, served-one, since-next, stretches-next}
 use Rattle.lpt_spacecraft.proofs.EventLemmas.{by-next, place-next, Ends, IsServed}
-use Rattle.lpt_spacecraft.proofs.StretchLemmas.{run-within, so-far-run, IsCutSoFar}
+use Rattle.lpt_spacecraft.proofs.StretchLemmas.{so-far-run, IsCutSoFar}
 
 -- so many at a place were told of, behind what came
 flies-noise : (pace : Pace) (s t : Spacecraft) (q : PaceCourse) (old new : Option (List ℕ))
@@ -59,27 +60,28 @@ noise-place events b place then len is size placed =
 
 -- a run was passed over, and told of
 pub served-passed : (pace : Pace) (s t : Spacecraft) (q : PaceCourse) (e : Ends)
-    (has : Option (List Told)) (held now : List ℕ) (ended : Bool) (count place len then : ℕ)
-    → IsServed pace s t q e held ended count place
-    → pace.passing ≡ true
-    → RunsTo ended len held
+    (has : Option (List Told)) (held now : List ℕ) (ended step on : Bool)
+    (count place len then : ℕ)
+    → IsServed pace s t q e held ended step count place
+    → StandsSo pace.passing step ended held (Passed (take len held)) on (drop len held)
+    → len ≤ length held
     → now ≡ drop len held
     → Hears e.has has (tells.Skipped place len ∷ [])
     → then ≡ min (place + len) (2 ^ 64 - 1)
-    → IsServed pace s t q (record e { has = has }) now ended (count + 1) then
-served-passed pace s t q e has held now ended count place len then h passing run left told placed =
+    → IsServed pace s t q (record e { has = has }) now ended on (count + 1) then
+served-passed pace s t q e has held now ended step on count place len then h run within left told
+    placed =
     let b = take len held in
     let x = Noise b in
-    let within = run-within ended len held run in
     let size : length b ≡ len = length-take-le len held within in
     record {
       stream = h.stream;
       events = h.events ++ x ∷ [];
       consumed = h.consumed;
-      cut = subst (λ ss. IsCutSoFar pace.passing h.stream ss ended now)
+      cut = subst (λ ss. IsCutSoFar pace.passing h.stream ss ended on now)
           (sym (stretches-next h.events x))
-          (so-far-run pace.passing h.stream (stretches_of h.events) ended held now len passing
-          h.cut run within left);
+          (so-far-run pace.passing h.stream (stretches_of h.events) ended step on held now len
+          h.cut run left);
       flies = flies-noise pace s t q e.old e.new e.had e.has has h.events b place len h.place_is
           size h.flies told;
       answers = asks-noise pace.clocked e.asked e.answered h.events b h.answers;

@@ -7,16 +7,17 @@ use Rattle.lpt_text.specs.Streams.{ReadFails}
 use Rattle.lpt_text.specs.declared.fault.StreamFault.{StreamFault}
 use Rattle.lpt_text.specs.declared.fault.StreamFault.TheVariants as faults
 use Rattle.lpt_stream.specs.Pieces.{up_to_limit}
-use Rattle.lpt_spacecraft.specs.Fronts.{RunsTo, SearchFails}
+use Rattle.lpt_spacecraft.specs.Fronts.{SearchFails, StandsSo}
 use Rattle.lpt_spacecraft.specs.Streams.{StopsAt}
-use Rattle.lpt_spacecraft.specs.Stretches.{Stretch, Framed, Passed, octets_of, stretch_octets, IsFrame}
+use Rattle.lpt_spacecraft.specs.Stretches.{Stretch, Framed, Passed, octets_of, stretch_octets}
 use Rattle.lpt_spacecraft.specs.Waiting.{Gains, HandsFront, HandsOver, IsUnending, handed_as, handed_from, unwritten_fault}
 use Rattle.lpt_spacecraft.specs.declared.inlet.Happening.{Happening}
 use Rattle.lpt_spacecraft.specs.declared.inlet.Happening.TheVariants as happens
+use Rattle.lpt_spacecraft.specs.declared.passing.Passing.{Passing}
 use Rattle.lpt_spacecraft.specs.declared.stop.Stop.{Stop}
 use Rattle.lpt_spacecraft.proofs.SearchLemmas.{search-reader}
 use Rattle.lpt_spacecraft.proofs.StreamLemmas.{grown}
-use Rattle.lpt_spacecraft.proofs.StretchLemmas.{cut-here, run-within, so-far-frame, so-far-more, so-far-none, so-far-run, stretch-next, IsCutSoFar}
+use Rattle.lpt_spacecraft.proofs.StretchLemmas.{cut-here, cut-whole, so-far-frame, so-far-more, so-far-none, so-far-run, stretch-next, IsCutSoFar}
 use Rattle.lpt_spacecraft.proofs.TurnLemmas.{gains-more, gains-none}
 use Rattle.lpt_spacecraft.proofs.WritingLemmas.{none_lost}
 
@@ -49,45 +50,48 @@ place-more ss s place then len is size placed =
 
 -- ---- those that were handed over
 
-pub record IsRelayed (passing : Bool) (before after : Option (List ℕ))
-    (had has : Option (List Happening)) (left : List ℕ) (ended : Bool) (count place : ℕ) : Type 0
+pub record IsRelayed (passing : Passing) (before after : Option (List ℕ))
+    (had has : Option (List Happening)) (left : List ℕ) (ended step : Bool)
+    (count place : ℕ) : Type 0
   where
     pub stream : List ℕ
     pub stretches : List Stretch
     pub consumed : Consumes before after stream
-    pub cut : IsCutSoFar passing stream stretches ended left
+    pub cut : IsCutSoFar passing stream stretches ended step left
     pub gains : Gains had has (handed_from 0 stretches)
     pub count_is : length stretches ≡ count
     pub place_is : place ≡ up_to_limit (length (stretch_octets stretches))
 
 -- none was
-pub relayed-none : (passing : Bool) (a : Option (List ℕ)) (had : Option (List Happening))
-    (left : List ℕ) (ended : Bool)
+pub relayed-none : (passing : Passing) (a : Option (List ℕ)) (had : Option (List Happening))
+    (left : List ℕ) (ended step : Bool)
     → left ≡ []
-    → IsRelayed passing a a had had left ended 0 0
-relayed-none passing a had left ended none = record {
+    → step ≡ true
+    → IsRelayed passing a a had had left ended step 0 0
+relayed-none passing a had left ended step none on = record {
   stream = [];
   stretches = [];
   consumed = Consumes-nil a;
-  cut = so-far-none passing ended left none;
+  cut = so-far-none passing ended step left none on;
   gains = gains-none had;
   count_is = refl;
   place_is = refl;
 }
 
 -- more was read
-pub relayed-more : (passing : Bool) (a b d : Option (List ℕ)) (had has : Option (List Happening))
+pub relayed-more : {step : Bool} (passing : Passing) (a b d : Option (List ℕ))
+    (had has : Option (List Happening))
     (left read rest : List ℕ) (ended now : Bool) (count place : ℕ)
-    → IsRelayed passing a b had has left ended count place
+    → IsRelayed passing a b had has left ended step count place
     → Consumes b d read
     → (ended ≡ true → (now ≡ true) × (read ≡ []))
     → rest ≡ left ++ read
-    → IsRelayed passing a d had has rest now count place
+    → IsRelayed passing a d had has rest now step count place
 relayed-more passing a b d had has left read rest ended now count place h more stays is = record {
   stream = h.stream ++ read;
   stretches = h.stretches;
   consumed = Consumes-trans a b d h.stream read h.consumed more;
-  cut = so-far-more passing h.stream h.stretches ended now left read rest h.cut stays is;
+  cut = so-far-more passing h.stream h.stretches ended now _ left read rest h.cut stays is;
   gains = h.gains;
   count_is = h.count_is;
   place_is = h.place_is;
@@ -105,26 +109,28 @@ gains-next had has now ss s h more =
     (gains-more had has now (handed_from 0 ss) (handed_as n s ∷ []) h more)
 
 -- a frame was handed over
-pub relayed-frame : (passing : Bool) (a b : Option (List ℕ)) (had has now : Option (List Happening))
-    (left rest octets : List ℕ) (ended over : Bool) (count place len then : ℕ)
-    → IsRelayed passing a b had has left ended count place
-    → IsFrame (take len left)
+pub relayed-frame : (passing : Passing) (a b : Option (List ℕ))
+    (had has now : Option (List Happening))
+    (left rest octets : List ℕ) (ended over step on : Bool) (count place len then : ℕ)
+    → IsRelayed passing a b had has left ended step count place
+    → StandsSo passing step ended left (Framed (take len left)) true (drop len left)
     → len ≤ length left
     → octets ≡ take len left
     → Gains has now (happens.Packet octets ∷ [])
     → then ≡ min (place + len) (2 ^ 64 - 1)
     → rest ≡ drop len left
     → over ≡ ended
-    → IsRelayed passing a b had now rest over (count + 1) then
-relayed-frame passing a b had has now left rest octets ended over count place len then h front
-    within is given placed behind stays =
+    → on ≡ true
+    → IsRelayed passing a b had now rest over on (count + 1) then
+relayed-frame passing a b had has now left rest octets ended over step on count place len then h
+    front within is given placed behind stays stepped =
     let s = Framed (take len left) in
     record {
       stream = h.stream;
       stretches = h.stretches ++ s ∷ [];
       consumed = h.consumed;
-      cut = so-far-frame passing h.stream h.stretches ended over left rest len h.cut front
-          behind stays;
+      cut = so-far-frame passing h.stream h.stretches ended over step on left rest len h.cut
+          front behind stays stepped;
       gains = gains-next had has now h.stretches s h.gains
           (subst (λ o. Gains has now (happens.Packet o ∷ [])) is given);
       count_is = length-append h.stretches (s ∷ []) ∙ ap (λ n. n + 1) h.count_is;
@@ -143,27 +149,27 @@ gains-run has now ss b place len is size given =
     (subst (λ n. Gains has now (happens.Skipped place n ∷ [])) (sym size) given)
 
 -- a run was
-pub relayed-run : (passing : Bool) (a b : Option (List ℕ)) (had has now : Option (List Happening))
-    (left rest : List ℕ) (ended : Bool) (count place len then : ℕ)
-    → IsRelayed passing a b had has left ended count place
-    → passing ≡ true
-    → RunsTo ended len left
+pub relayed-run : (passing : Passing) (a b : Option (List ℕ))
+    (had has now : Option (List Happening))
+    (left rest : List ℕ) (ended step on : Bool) (count place len then : ℕ)
+    → IsRelayed passing a b had has left ended step count place
+    → StandsSo passing step ended left (Passed (take len left)) on (drop len left)
+    → len ≤ length left
     → rest ≡ drop len left
     → Gains has now (happens.Skipped place len ∷ [])
     → then ≡ min (place + len) (2 ^ 64 - 1)
-    → IsRelayed passing a b had now rest ended (count + 1) then
-relayed-run passing a b had has now left rest ended count place len then h is_passing run behind
+    → IsRelayed passing a b had now rest ended on (count + 1) then
+relayed-run passing a b had has now left rest ended step on count place len then h run within behind
     given placed =
     let octets = take len left in
     let s = Passed octets in
-    let within = run-within ended len left run in
     let size : length octets ≡ len = length-take-le len left within in
     record {
       stream = h.stream;
       stretches = h.stretches ++ s ∷ [];
       consumed = h.consumed;
-      cut = so-far-run passing h.stream h.stretches ended left rest len is_passing h.cut run
-          within behind;
+      cut = so-far-run passing h.stream h.stretches ended step on left rest len h.cut run
+          behind;
       gains = gains-next had has now h.stretches s h.gains
           (gains-run has now h.stretches octets place len h.place_is size given);
       count_is = length-append h.stretches (s ∷ []) ∙ ap (λ n. n + 1) h.count_is;
@@ -173,24 +179,25 @@ relayed-run passing a b had has now left rest ended count place len then h is_pa
 -- ---- how it ends
 
 -- where no more is handed over, or read
-pub hands-front : (passing : Bool) (a b : Option (List ℕ)) (had has : Option (List Happening))
+pub hands-front : {step : Bool} (passing : Passing) (a b : Option (List ℕ))
+    (had has : Option (List Happening))
     (left : List ℕ) (ended : Bool) (count place : ℕ)
-    → IsRelayed passing a b had has left ended count place
+    → IsRelayed passing a b had has left ended step count place
     → HandsFront passing a b had has [] (λ _ _. Unit)
 hands-front passing a b had has left ended count place h = record {
   stream = h.stream;
   stretches = h.stretches;
   rest = left;
   consumed = none_lost a b h.stream h.consumed;
-  cut = cut-here passing h.stream h.stretches ended left h.cut;
+  cut = cut-here passing h.stream h.stretches ended _ left h.cut;
   gains = h.gains;
   holds = tt;
 }
 
 -- octets were lost
-hands-lost : (passing : Bool) (a b d : Option (List ℕ)) (had has : Option (List Happening))
-    (left lost : List ℕ) (ended : Bool) (count place : ℕ)
-    → IsRelayed passing a b had has left ended count place
+hands-lost : {step : Bool} (passing : Passing) (a b d : Option (List ℕ))
+    (had has : Option (List Happening)) (left lost : List ℕ) (ended : Bool) (count place : ℕ)
+    → IsRelayed passing a b had has left ended step count place
     → Consumes b d lost
     → HandsFront passing a d had has lost (λ _ _. Unit)
 hands-lost passing a b d had has left lost ended count place h more = record {
@@ -198,15 +205,16 @@ hands-lost passing a b d had has left lost ended count place h more = record {
   stretches = h.stretches;
   rest = left;
   consumed = Consumes-trans a b d h.stream lost h.consumed more;
-  cut = cut-here passing h.stream h.stretches ended left h.cut;
+  cut = cut-here passing h.stream h.stretches ended _ left h.cut;
   gains = h.gains;
   holds = tt;
 }
 
 -- it stops there
-pub hands-stop : (passing : Bool) (a b : Option (List ℕ)) (had has : Option (List Happening))
+pub hands-stop : {step : Bool} (passing : Passing) (a b : Option (List ℕ))
+    (had has : Option (List Happening))
     (left : List ℕ) (ended : Bool) (count place : ℕ) (stop : Stop)
-    → (h : IsRelayed passing a b had has left ended count place)
+    → (h : IsRelayed passing a b had has left ended step count place)
     → ((n : ℕ) → place ≡ up_to_limit n → StopsAt passing stop n left b)
     → HandsOver passing (Ok (Some stop)) a b had has
 hands-stop passing a b had has left ended count place stop h at = record {
@@ -214,17 +222,17 @@ hands-stop passing a b had has left ended count place stop h at = record {
   stretches = h.stretches;
   rest = left;
   consumed = none_lost a b h.stream h.consumed;
-  cut = cut-here passing h.stream h.stretches ended left h.cut;
+  cut = cut-here passing h.stream h.stretches ended _ left h.cut;
   gains = h.gains;
   holds = at (length (stretch_octets h.stretches)) h.place_is;
 }
 
 -- a fault ended a search
-pub hands-fault : (fault : StreamFault) (passing : Bool) (a b d : Option (List ℕ))
+pub hands-fault : {step : Bool} (fault : StreamFault) (passing : Passing) (a b d : Option (List ℕ))
     (had has : Option (List Happening)) (left : List ℕ) (ended bad failed : Bool)
     (count place : ℕ)
     → SearchFails fault left ended b d bad failed
-    → IsRelayed passing a b had has left ended count place
+    → IsRelayed passing a b had has left ended step count place
     → HandsOver passing (Err (unwritten_fault fault)) a d had has
 hands-fault faults.Read passing a b d had has left ended bad failed count place found h =
     hands-front passing a d had has (left ++ found.0) ended count place
@@ -243,12 +251,12 @@ unwritten-reader Over faults.Write first failed h = h
 unwritten-reader Over faults.Memory first failed h = h
 
 -- how it leaves the reader
-pub hands-reader : (fault : StreamFault) (passing : Bool) (a b d : Option (List ℕ))
+pub hands-reader : {step : Bool} (fault : StreamFault) (passing : Passing) (a b d : Option (List ℕ))
     (had has : Option (List Happening)) (left : List ℕ) (ended first bad failed : Bool)
     (count place : ℕ)
     → SearchFails fault left ended b d bad failed
     → bad ≡ first
-    → IsRelayed passing a b had has left ended count place
+    → IsRelayed passing a b had has left ended step count place
     → ReadFails (IsUnending passing a d) (unwritten_fault fault) first failed
 hands-reader fault passing a b d had has left ended first bad failed count place found same h =
     unwritten-reader (IsUnending passing a d) fault first failed
@@ -257,13 +265,14 @@ hands-reader fault passing a b d had has left ended first bad failed count place
       h.stream ++ read,
       Consumes-trans a b d h.stream read h.consumed came,
       grown h.stream left read (stretch_octets h.stretches)
-          (cut-here passing h.stream h.stretches ended left h.cut).whole many,
+          (cut-whole passing h.stream h.stretches ended _ left h.cut) many,
     )))
 
 -- so many stretches came
-pub unending : (passing : Bool) (a b : Option (List ℕ)) (had has : Option (List Happening))
+pub unending : {step : Bool} (passing : Passing) (a b : Option (List ℕ))
+    (had has : Option (List Happening))
     (left : List ℕ) (ended : Bool) (count place : ℕ)
-    → IsRelayed passing a b had has left ended count place
+    → IsRelayed passing a b had has left ended step count place
     → count ≡ 2 ^ 64 - 1
     → IsUnending passing a b
 unending passing a b had has left ended count place h most = inl (
@@ -271,6 +280,6 @@ unending passing a b had has left ended count place h most = inl (
   h.stretches,
   left,
   h.consumed,
-  cut-here passing h.stream h.stretches ended left h.cut,
+  cut-here passing h.stream h.stretches ended _ left h.cut,
   h.count_is ∙ most,
 )

@@ -1,23 +1,15 @@
--- What a search reads, and what stands in front then.
-use Rattle.std.proofs.Common.{◌≡◌, ◌⊎◌, ◌∙◌, ap, sym, subst, refl, inl, inr, ℕ, ◌-◌, ◌^◌, ◌≤◌, Bool, true, false, List, [], ◌++◌, length, drop, Option, Some, None, Ok, Err, append_assoc, append-nil}
+-- What a search reads, and how a fault ends it.
+use Rattle.std.proofs.Common.{◌≡◌, ◌⊎◌, ◌∙◌, ap, sym, subst, refl, inl, inr, ℕ, ◌≤◌, Bool, true, false, List, [], ◌++◌, length, Option, Err, append_assoc, append-nil}
 use Rattle.std.specs.Io.KnownBytes.{Consumes, IsAtEnd}
 use Rattle.std.proofs.KnownBytes.{Consumes-nil, Consumes-trans}
-use Rattle.lpt_packet.specs.Numbers.{IsOctets}
 use Rattle.lpt_text.specs.Streams.{ReadFails}
 use Rattle.lpt_text.specs.declared.fault.StreamFault.{StreamFault}
 use Rattle.lpt_text.specs.declared.fault.StreamFault.TheVariants as faults
-use Rattle.lpt_stream.specs.Buffers.{cut_of, is_ended, is_in_step, octets_held, FindsPassing, Goes, IsInFront}
-use Rattle.lpt_stream.specs.Pieces.{is_version, up_to_limit}
+use Rattle.lpt_stream.specs.Buffers.{cut_of, is_ended, is_in_step, octets_held, FindsPassing, Goes}
 use Rattle.lpt_stream.specs.declared.buffer.PacketBuffer.{PacketBuffer}
 use Rattle.lpt_stream.specs.declared.cut.Cut.TheVariants.{Resumed}
-use Rattle.lpt_stream.specs.declared.found.Found.{Found}
-use Rattle.lpt_spacecraft.specs.Fronts.{is_packet, FindsFront, IsCutting, PassesOver, ReadsOn, RunsTo, SearchFails}
-use Rattle.lpt_spacecraft.specs.Streams.{StopsAt}
-use Rattle.lpt_spacecraft.specs.Stretches.{IsStray}
-use Rattle.lpt_spacecraft.specs.declared.front.Front.{Front}
-use Rattle.lpt_spacecraft.specs.declared.front.Front.TheVariants as fronts
-use Rattle.lpt_spacecraft.specs.declared.stop.Stop.TheVariants as stops
-use Rattle.lpt_spacecraft.proofs.FrontLemmas.{other-there, packet-there, IsInStep}
+use Rattle.lpt_spacecraft.specs.Fronts.{IsCutting, ReadsOn, SearchFails}
+use Rattle.lpt_spacecraft.specs.declared.passing.Passing.{Passing}
 use Rattle.lpt_spacecraft.proofs.StretchLemmas.{no-more}
 
 -- ---- reads
@@ -153,145 +145,36 @@ search-reader Over faults.Read held ended a b first had failed h same over = go 
 search-reader Over faults.Write held ended a b first had failed h same over = h.3 ∙ same
 search-reader Over faults.Memory held ended a b first had failed h same over = h.2 ∙ same
 
--- ---- in step
+-- ---- a buffer
 
--- a new buffer
-pub cutting-new : (b : PacketBuffer) (a : Option (List ℕ))
-    → cut_of b ≡ Resumed
+-- a new one
+pub cutting-new : (p : Passing) (b : PacketBuffer) (a : Option (List ℕ))
+    → cut_of b ≡ Resumed p.longest
     → is_in_step b ≡ true
     → is_ended b ≡ false
-    → IsCutting b a
-cutting-new b a cut step unended =
-    record { cut_is = cut; step_is = step; ends = λ e. go (is_ended b) unended e }
+    → IsCutting p b a
+cutting-new p b a cut step unended =
+    record { cut_is = cut; step_is = λ off. step; ends = λ e. go (is_ended b) unended e }
   where
     go : (e : Bool) → e ≡ false → e ≡ true → IsAtEnd a
     go e is not = absurd cc
 
-pub cutting-more : (old new : PacketBuffer) (a b : Option (List ℕ)) (read : List ℕ)
-    → IsCutting old a
+pub cutting-more : (p : Passing) (old new : PacketBuffer) (a b : Option (List ℕ)) (read : List ℕ)
+    → IsCutting p old a
     → Goes old new a b read
-    → IsCutting new b
-cutting-more old new a b read h goes = record {
+    → IsCutting p new b
+cutting-more p old new a b read h goes = record {
   cut_is = goes.added.cut ∙ h.cut_is;
-  step_is = goes.added.step ∙ h.step_is;
+  step_is = λ off. goes.added.step ∙ h.step_is off;
   ends = goes.at_end h.ends;
 }
 
 -- behind a packet
-pub cutting-next : (old new : PacketBuffer) (a : Option (List ℕ))
-    → IsCutting old a
+pub cutting-next : (p : Passing) (old new : PacketBuffer) (a : Option (List ℕ))
+    → IsCutting p old a
     → cut_of new ≡ cut_of old
     → is_in_step new ≡ true
     → is_ended new ≡ is_ended old
-    → IsCutting new a
-cutting-next old new a h cut step end =
-    record { cut_is = cut ∙ h.cut_is; step_is = step; ends = λ e. h.ends (sym end ∙ e) }
-
-stepping : (b : PacketBuffer) (a : Option (List ℕ)) → IsCutting b a → IsInStep b
-stepping b a h = record { cut_is = h.cut_is; step_is = h.step_is }
-
--- ---- what is in front
-
--- nothing, at the end of the stream
-pub front-end : (passing : Bool) (place : ℕ) (old new : PacketBuffer) (a b : Option (List ℕ))
-    (had failed : Bool)
-    → IsCutting old a
-    → FindsPassing (Ok None) old new a b had failed
-    → FindsFront passing place (Ok (fronts.Stop stops.End)) old new a b had failed
-front-end passing place old new a b had failed cutting h =
-    let now = cutting-more old new a b h.0 cutting h.1 in (
-      h.0,
-      reads-goes old new a b h.0 h.1,
-      now,
-      (λ n at. (sym h.1.added.behind ∙ h.2, now.ends h.3)),
-      h.4,
-    )
-
--- a packet
-pub front-packet : (passing : Bool) (place : ℕ) (f : Found) (old new : PacketBuffer)
-    (a b : Option (List ℕ)) (had failed : Bool)
-    → IsCutting old a
-    → FindsPassing (Ok (Some f)) old new a b had failed
-    → is_packet f.kind ≡ true
-    → FindsFront passing place (Ok (fronts.Packet f.len)) old new a b had failed
-front-packet passing place f old new a b had failed cutting h packet =
-    let now = cutting-more old new a b h.0 cutting h.1 in
-    let there = packet-there new f (stepping new b now) h.2 packet in (
-      h.0,
-      reads-goes old new a b h.0 h.1,
-      now,
-      (h.1.added.behind, there.within, there.frame),
-      h.3,
-    )
-
--- one that is cut off
-pub front-cut : (passing : Bool) (place : ℕ) (f : Found) (old new : PacketBuffer)
-    (a b : Option (List ℕ)) (had failed : Bool)
-    → IsCutting old a
-    → FindsPassing (Ok (Some f)) old new a b had failed
-    → is_packet f.kind ≡ false
-    → IsOctets (octets_held new)
-    → is_version (octets_held new) ≡ true
-    → FindsFront passing place (Ok (fronts.Stop (stops.Cut place))) old new a b had failed
-front-cut passing place f old new a b had failed cutting h other octets version =
-    let now = cutting-more old new a b h.0 cutting h.1 in
-    let there = other-there new f (stepping new b now) h.2 octets other version in (
-      h.0,
-      reads-goes old new a b h.0 h.1,
-      now,
-      (λ n at. subst (λ rest. StopsAt passing (stops.Cut place) n rest b) h.1.added.behind
-          (at, there.unfinished, there.some, now.ends there.ended)),
-      h.3,
-    )
-
--- octets of another version, before which the stream stops
-pub front-stray : (passing : Bool) (place : ℕ) (f : Found) (old new : PacketBuffer)
-    (a b : Option (List ℕ)) (had failed : Bool)
-    → IsCutting old a
-    → FindsPassing (Ok (Some f)) old new a b had failed
-    → IsStray (octets_held new)
-    → passing ≡ false
-    → FindsFront passing place (Ok (fronts.Stop (stops.Stray place))) old new a b had failed
-front-stray passing place f old new a b had failed cutting h stray off = (
-  h.0,
-  reads-goes old new a b h.0 h.1,
-  cutting-more old new a b h.0 cutting h.1,
-  (λ n at. (at, subst IsStray h.1.added.behind stray, off)),
-  h.3,
-)
-
--- or which were passed over
-pub front-strays : (passing : Bool) (place len : ℕ) (f : Found) (old mid new : PacketBuffer)
-    (a b d : Option (List ℕ)) (had told failed : Bool)
-    → IsCutting old a
-    → FindsPassing (Ok (Some f)) old mid a b had told
-    → passing ≡ true
-    → PassesOver (Ok len) mid new b d told failed
-    → FindsFront passing place (Ok (fronts.Strays len)) old new a d had failed
-front-strays passing place len f old mid new a b d had told failed cutting h on run =
-    let now = cutting-more old mid a b h.0 cutting h.1 in
-    let all : octets_held mid ++ run.0 ≡ octets_held old ++ (h.0 ++ run.0) =
-    ap (λ x. x ++ run.0) h.1.added.behind ∙ append_assoc (octets_held old) h.0 run.0 in (
-      h.0 ++ run.0,
-      reads-more old mid new a b d h.0 run.0 (reads-goes old mid a b h.0 h.1) run.1,
-      record {
-        cut_is = run.1.cut ∙ now.cut_is;
-        step_is = run.2;
-        ends = run.1.at_end now.ends;
-      },
-      (
-        run.3 ∙ ap (drop len) all,
-        on,
-        subst (RunsTo (is_ended new) len) all run.4,
-      ),
-      run.5 ∙ h.3,
-    )
-
--- what a search gave
-pub front-as : (passing : Bool) (place : ℕ) (given was : Front) (old new : PacketBuffer)
-    (a b : Option (List ℕ)) (had failed : Bool)
-    → was ≡ given
-    → FindsFront passing place (Ok was) old new a b had failed
-    → FindsFront passing place (Ok given) old new a b had failed
-front-as passing place given was old new a b had failed is h =
-    subst (λ (f : Front). FindsFront passing place (Ok f) old new a b had failed) is h
+    → IsCutting p new a
+cutting-next p old new a h cut step end =
+    record { cut_is = cut ∙ h.cut_is; step_is = λ off. step; ends = λ e. h.ends (sym end ∙ e) }

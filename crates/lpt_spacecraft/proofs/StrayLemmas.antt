@@ -1,48 +1,196 @@
--- A run of octets that are passed over, octet after octet.
-use Rattle.std.proofs.Common.{◌≡◌, ◌⊎◌, ◌∙◌, nat_lt, ap, sym, subst, inl, inr, refl, ℕ, ◌+◌, ◌<◌, ◌≤◌, Bool, true, false, List, [], ◌++◌, length, drop, Option, Some, None, Ok, Err, append-nil, append_assoc, arith, length-append, length-drop}
-use Rattle.std.specs.Prelude.{IfSome}
+-- Octets astray that are passed over, one after the other.
+use Rattle.std.proofs.Common.{◌≡◌, ◌⊎◌, ◌∙◌, ap, sym, subst, inl, inr, refl, ℕ, zero, suc, ◌+◌, ◌<◌, ◌≤◌, Bool, true, false, List, [], ◌∷◌, ◌++◌, length, drop, take, Option, Some, None, Ok, Err, append-nil, append_assoc, arith, length-append, length-drop}
 use Rattle.std.specs.Io.KnownBytes.{Consumes}
-use Rattle.std.proofs.KnownBytes.{Consumes-nil, Consumes-trans}
-use Rattle.std.proofs.lemmas.Bool.Decides.{nat_tests}
-use Rattle.std.proofs.lemmas.List.{drop-append-le, drop-drop}
-use Rattle.lpt_packet.specs.Numbers.{IsOctets}
+use Rattle.std.proofs.lemmas.List.{drop-append-le, drop-drop, length-take-le, take-append-le}
 use Rattle.lpt_text.specs.declared.fault.StreamFault.{StreamFault}
 use Rattle.lpt_text.specs.declared.fault.StreamFault.TheVariants as faults
-use Rattle.lpt_stream.specs.Buffers.{cut_of, is_ended, is_in_step, octets_held, FindsPassing}
+use Rattle.lpt_stream.specs.Buffers.{cut_of, found_piece, is_ended, is_in_step, octets_held, FindsPassing, IsInFront}
+use Rattle.lpt_stream.specs.Pieces.{LeadsBy, Piece, keeps_step, kind_by, lookahead, piece_by, size_in}
 use Rattle.lpt_stream.specs.declared.buffer.PacketBuffer.{PacketBuffer}
+use Rattle.lpt_stream.specs.declared.cut.Cut.{Cut}
 use Rattle.lpt_stream.specs.declared.cut.Cut.TheVariants.{Resumed}
 use Rattle.lpt_stream.specs.declared.found.Found.{Found}
-use Rattle.lpt_spacecraft.specs.Fronts.{FindsAstray, IsAstray, IsShownAgain, PassesOver, ReadsAgain, ReadsOn, SearchFails, ShowsAgain}
-use Rattle.lpt_spacecraft.specs.Stretches.{begins_again, IsFront, IsRun, IsStray, NeverBegins}
-use Rattle.lpt_spacecraft.proofs.FrontLemmas.{ended-there, stray-some, version-front}
-use Rattle.lpt_spacecraft.proofs.SearchLemmas.{reads-before, reads-goes, reads-more, reads-none, reads-then, search-behind, search-piece}
+use Rattle.lpt_stream.specs.declared.piece_kind.PieceKind.{PieceKind}
+use Rattle.lpt_stream.specs.declared.piece_kind.PieceKind.TheVariants.{Whole, Damaged, Stray}
+use Rattle.lpt_spacecraft.specs.Fronts.{finds_stray, PassesOver, ReadsOn, RunsTo, SearchFails}
+use Rattle.lpt_spacecraft.specs.Stretches.{is_stray, strays_of, EndsStrays}
+use Rattle.lpt_spacecraft.specs.declared.passing.Passing.{Passing}
+use Rattle.lpt_spacecraft.proofs.StretchLemmas.{no-more}
+use Rattle.lpt_spacecraft.proofs.SearchLemmas.{reads-goes, reads-more, reads-none, reads-then, search-behind}
 
--- ---- what shows in front
+-- ---- pieces
 
--- less than a packet, which in step shows only at the end
-shows-none : (s : Bool) (o : Option Found) (old new : PacketBuffer) (a b : Option (List ℕ))
-    (had failed : Bool)
-    → FindsPassing (Ok o) old new a b had failed
-    → cut_of new ≡ Resumed
-    → is_in_step new ≡ s
-    → IsOctets (octets_held new)
-    → IsFront (octets_held new)
-    → s ≡ true
-    → is_ended new ≡ true
-shows-none s None old new a b had failed h cut step octets front in_step = h.3
-shows-none s (Some f) old new a b had failed h cut step octets front in_step =
-    ended-there new f (record { cut_is = cut; step_is = step ∙ in_step }) h.2 octets front
+-- an octet that is astray
+abbrev pub stray : List ℕ → Piece
+stray b = record { kind = Stray; octets = b }
 
-shows : (s : Bool) (shown : Option Bool) (ended : Bool) (b : List ℕ)
-    → IfSome shown (λ x. IsShownAgain x b)
-    → (shown ≡ None → IsFront b)
-    → (IsFront b → s ≡ true → ended ≡ true)
-    → ShowsAgain s shown ended b
-shows s (Some x) ended b some none over = some
-shows s None ended b some none over = (none refl, over (none refl))
+-- one piece more
+leads-next : (cut : Cut) (s : Bool) (b : List ℕ) (ps : List Piece) (t : Bool) (c : List ℕ)
+    (p : Piece)
+    → LeadsBy cut s b ps t c
+    → 0 < length c
+    → p ≡ piece_by cut t c
+    → LeadsBy cut s b (ps ++ p ∷ []) (keeps_step p.kind) (drop (length p.octets) c)
+leads-next cut s b [] t c p h some is = (
+  subst (λ x. 0 < length x) (sym h.1) some,
+  is ∙ (λ i. piece_by cut (sym h.0 i) (sym h.1 i)),
+  (refl, ap (λ x. drop (length p.octets) x) h.1),
+)
+leads-next cut s b (q ∷ qs) t c p h some is =
+    (h.0, h.1, leads-next cut (keeps_step q.kind) (drop (length q.octets) b) qs t c p h.2 some is)
+
+-- one octet more
+strays-next : (n : ℕ) (w : List ℕ)
+    → n < length w
+    → strays_of (take (suc n) w) ≡ strays_of (take n w) ++ stray (take 1 (drop n w)) ∷ []
+strays-next zero [] h = absurd (omega (arith, h))
+strays-next zero (x ∷ w) h = refl
+strays-next (suc n) [] h = absurd (omega (arith, h))
+strays-next (suc n) (x ∷ w) h =
+    ap (λ ps. stray (x ∷ []) ∷ ps) (strays-next n w (omega (arith, h)))
+
+stray-kind : (k : PieceKind) → is_stray k ≡ true → k ≡ Stray
+stray-kind Whole e = absurd cc
+stray-kind Damaged e = absurd cc
+stray-kind Stray e = refl
+
+one-long : (b : List ℕ) → 0 < length b → length (take 1 b) ≡ 1
+one-long b some = length-take-le 1 b (omega (arith, some))
+
+-- it is an octet
+stray-length : (cut : Cut) (s : Bool) (b : List ℕ) (k : PieceKind) (n : ℕ)
+    → piece_by cut s b ≡ record { kind = k; octets = take n b }
+    → k ≡ Stray
+    → 0 < length b
+    → n ≤ length b
+    → n ≡ 1
+unfolding piece_by
+stray-length cut s b k n same is some within =
+    let near = take lookahead b in
+    let kind : kind_by cut s near ≡ Stray = ap (λ (p : Piece). p.kind) same ∙ is in
+    let octets : take 1 b ≡ take n b =
+    ap (λ (j : PieceKind). take (size_in j near) b) (sym kind)
+    ∙ ap (λ (p : Piece). p.octets) same in
+    sym (length-take-le n b within) ∙ ap (λ (x : List ℕ). length x) (sym octets)
+    ∙ one-long b some
+
+-- what stands in front, as it is
+front-here : (b : PacketBuffer) (f : Found)
+    → IsInFront b f
+    → piece_by (cut_of b) (is_in_step b) (octets_held b) ≡ found_piece b f
+front-here b f front =
+    ap (piece_by (cut_of b) (is_in_step b)) (sym (append-nil (octets_held b)))
+    ∙ front.is [] (λ e. refl)
+
+-- so it is an octet, whatever comes
+stray-there : (b : PacketBuffer) (f : Found)
+    → IsInFront b f
+    → is_stray f.kind ≡ true
+    → (more : List ℕ) → (is_ended b ≡ true → more ≡ [])
+    → piece_by (cut_of b) (is_in_step b) (octets_held b ++ more) ≡ stray (take 1 (octets_held b))
+stray-there b f front astray more last =
+    let kind : f.kind ≡ Stray = stray-kind f.kind astray in
+    let one : f.len ≡ 1 =
+    stray-length (cut_of b) (is_in_step b) (octets_held b) f.kind f.len (front-here b f front) kind
+    front.some front.within in
+    front.is more last
+    ∙ (λ i. record { kind = kind i; octets = take (one i) (octets_held b) })
+
+-- ---- octet after octet
+
+-- behind the first octets that were held, so many were read, and of all the first n passed over
+pub record Passes (first now : PacketBuffer) (n : ℕ) (before after : Option (List ℕ)) : Type 0
+  where
+    pub read : List ℕ
+    pub reads : ReadsOn first now before after read
+    pub within : n ≤ length (octets_held first ++ read)
+    pub left : octets_held now ≡ drop n (octets_held first ++ read)
+    pub leads : (more : List ℕ) → (is_ended now ≡ true → more ≡ [])
+        → LeadsBy (cut_of first) (is_in_step first) ((octets_held first ++ read) ++ more)
+        (strays_of (take n (octets_held first ++ read))) (is_in_step now)
+        (drop n (octets_held first ++ read) ++ more)
+
+-- none was
+passes-none : (first : PacketBuffer) (a : Option (List ℕ)) → Passes first first 0 a a
+passes-none first a = record {
+  read = [];
+  reads = reads-none first first a refl refl;
+  within = omega arith;
+  left = sym (append-nil (octets_held first));
+  leads = λ more last. (refl, refl);
+}
+
+long : (b more : List ℕ) → 0 < length b → 0 < length (b ++ more)
+long b more h = let size = length-append b more in omega (arith, h)
+
+-- one more is passed over
+passes-on : (first mid now : PacketBuffer) (f : Found) (n : ℕ) (a b : Option (List ℕ))
+    → Passes first mid n a b
+    → IsInFront mid f
+    → is_stray f.kind ≡ true
+    → octets_held now ≡ drop 1 (octets_held mid)
+    → cut_of now ≡ cut_of mid
+    → is_in_step now ≡ false
+    → is_ended now ≡ is_ended mid
+    → Passes first now (suc n) a b
+passes-on first mid now f n a b h front astray is cut step end =
+    let w = octets_held first ++ h.read in
+    let size : length (drop n w) + n ≡ length w = length-dropped w n h.within in
+    let some : 0 < length (drop n w) = subst (λ x. 0 < length x) h.left front.some in
+    let next_n : n + 1 ≡ suc n = omega arith in
+    let off : drop 1 (drop n w) ≡ drop (suc n) w =
+    drop-drop 1 n w ∙ ap (λ k. drop k w) next_n in
+    let one : Piece = stray (take 1 (drop n w)) in
+    record {
+      read = h.read;
+      reads = reads-then first mid now a b h.read h.reads cut end;
+      within = omega (arith, size, some);
+      left = is ∙ ap (drop 1) h.left ∙ off;
+      leads = λ more last.
+          let still : is_ended mid ≡ true → more ≡ [] = λ e. last (end ∙ e) in
+          let there : one ≡ piece_by (cut_of first) (is_in_step mid) (drop n w ++ more) =
+          sym (ap (λ x. piece_by x (is_in_step mid) (drop n w ++ more)) (sym h.reads.cut)
+          ∙ ap (λ x. piece_by (cut_of mid) (is_in_step mid) (x ++ more)) (sym h.left)
+          ∙ stray-there mid f front astray more still
+          ∙ ap (λ x. stray (take 1 x)) h.left) in
+          let next = leads-next (cut_of first) (is_in_step first) (w ++ more)
+          (strays_of (take n w)) (is_in_step mid) (drop n w ++ more) one (h.leads more still)
+          (long (drop n w) more some) there in
+          let rest : drop (length (take 1 (drop n w))) (drop n w ++ more)
+          ≡ drop (suc n) w ++ more =
+          ap (λ k. drop k (drop n w ++ more)) (one-long (drop n w) some)
+          ∙ drop-append-le 1 (drop n w) more (omega (arith, some))
+          ∙ ap (λ x. x ++ more) off in
+          subst (λ ps. LeadsBy (cut_of first) (is_in_step first) (w ++ more) ps (is_in_step now)
+          (drop (suc n) w ++ more)) (sym (strays-next n w (omega (arith, size, some))))
+          (subst (λ t. LeadsBy (cut_of first) (is_in_step first) (w ++ more)
+          (strays_of (take n w) ++ one ∷ []) t (drop (suc n) w ++ more)) (sym step)
+          (subst (LeadsBy (cut_of first) (is_in_step first) (w ++ more)
+          (strays_of (take n w) ++ one ∷ []) false) rest next));
+    }
+  where
+    length-dropped : (w : List ℕ) (n : ℕ) → n ≤ length w → length (drop n w) + n ≡ length w
+    length-dropped w n within = omega (arith, length-drop n w, within)
+
+-- the first
+pub passes-first : (first now : PacketBuffer) (f : Found) (a : Option (List ℕ))
+    → IsInFront first f
+    → is_stray f.kind ≡ true
+    → octets_held now ≡ drop f.len (octets_held first)
+    → cut_of now ≡ cut_of first
+    → is_in_step now ≡ keeps_step f.kind
+    → is_ended now ≡ is_ended first
+    → Passes first now 1 a a
+passes-first first now f a front astray left cut step end =
+    let kind : f.kind ≡ Stray = stray-kind f.kind astray in
+    let one : f.len ≡ 1 =
+    stray-length (cut_of first) (is_in_step first) (octets_held first) f.kind f.len
+    (front-here first f front) kind front.some front.within in
+    passes-on first first now f 0 a a (passes-none first a) front astray
+    (left ∙ ap (λ k. drop k (octets_held first)) one) cut (step ∙ ap keeps_step kind) end
 
 -- what was read, whatever was found
-pub read-goes : (o : Option Found) (old new : PacketBuffer) (a b : Option (List ℕ))
+read-goes : (o : Option Found) (old new : PacketBuffer) (a b : Option (List ℕ))
     (had failed : Bool)
     → FindsPassing (Ok o) old new a b had failed
     → (read : List ℕ) × ReadsOn old new a b read × (octets_held new ≡ octets_held old ++ read)
@@ -52,257 +200,118 @@ read-goes None old new a b had failed h =
 read-goes (Some f) old new a b had failed h =
     (h.0, reads-goes old new a b h.0 h.1, h.1.added.behind, h.1.added.step, h.3)
 
--- what reading on shows
-pub reads-again : (s : Bool) (o : Option Found) (shown : Option Bool) (old mid new : PacketBuffer)
-    (a b : Option (List ℕ)) (had failed : Bool)
-    → octets_held mid ≡ octets_held old
-    → cut_of mid ≡ cut_of old
-    → is_in_step mid ≡ s
-    → is_ended mid ≡ is_ended old
-    → cut_of old ≡ Resumed
-    → FindsPassing (Ok o) mid new a b had failed
-    → IsOctets (octets_held new)
-    → IfSome shown (λ x. IsShownAgain x (octets_held new))
-    → (shown ≡ None → IsFront (octets_held new))
-    → ReadsAgain s (Ok shown) old new a b had failed
-reads-again s o shown old mid new a b had failed held cut step end resumed h octets some none =
-    let read = read-goes o mid new a b had failed h in (
-      read.0,
-      reads-before old mid new a b read.0 cut end read.1,
-      read.2 ∙ ap (λ x. x ++ read.0) held,
-      shows s shown (is_ended new) (octets_held new) some none
-          (λ front in_step. shows-none s o mid new a b had failed h
-          (read.1.cut ∙ cut ∙ resumed) (read.3 ∙ step) octets front in_step),
-      read.4,
-    )
-
--- a fault of that search
-pub skipped-fault : (fault : StreamFault) (old mid new : PacketBuffer) (a b : Option (List ℕ))
+pub reader-found : (o : Option Found) (old new : PacketBuffer) (a b : Option (List ℕ))
     (had failed : Bool)
-    → octets_held mid ≡ octets_held old
-    → is_ended mid ≡ is_ended old
-    → FindsPassing (Err fault) mid new a b had failed
-    → SearchFails fault (octets_held old) (is_ended old) a b had failed
-skipped-fault fault old mid new a b had failed held end h =
-    subst (λ e. SearchFails fault (octets_held old) e a b had failed) end
-    (subst (λ x. SearchFails fault x (is_ended mid) a b had failed) held
-    (search-piece fault mid new a b had failed h))
-
--- what it gave
-pub again-as : (s : Bool) (given was : Option Bool) (old new : PacketBuffer)
-    (a b : Option (List ℕ)) (had failed : Bool)
-    → was ≡ given
-    → ReadsAgain s (Ok was) old new a b had failed
-    → ReadsAgain s (Ok given) old new a b had failed
-again-as s given was old new a b had failed is h =
-    subst (λ o. ReadsAgain s (Ok o) old new a b had failed) is h
-
--- ---- whether an octet is astray
-
-astray-shown : (x ended : Bool) (b : List ℕ) → IsShownAgain x b → IsAstray x ended b
-astray-shown true ended b h = h
-astray-shown false ended b h = λ more last. inl (h more)
-
--- it shows
-pub astray-found : (s x : Bool) (old new : PacketBuffer) (a b : Option (List ℕ))
-    (had failed : Bool)
-    → ReadsAgain s (Ok (Some x)) old new a b had failed
-    → FindsAstray (Ok x) old new a b had failed
-astray-found s x old new a b had failed h =
-    (h.0, h.1, h.2, astray-shown x (is_ended new) (octets_held new) h.3, h.4)
-
--- it doesn't at the end
-pub astray-end : (old new : PacketBuffer) (a b : Option (List ℕ)) (had failed : Bool)
-    → ReadsAgain true (Ok None) old new a b had failed
-    → FindsAstray (Ok false) old new a b had failed
-astray-end old new a b had failed h = (
-  h.0,
-  h.1,
-  h.2,
-  λ more last.
-      inr (subst IsFront
-      (sym (append-nil (octets_held new)) ∙ ap (λ x. octets_held new ++ x)
-      (sym (last (h.3.1 refl)))) h.3.0),
-  h.4,
-)
-
--- behind what was read
-pub astray-behind : (s : Bool) (x : Bool) (old mid new : PacketBuffer) (a b d : Option (List ℕ))
-    (had told failed : Bool)
-    → ReadsAgain s (Ok None) old mid a b had told
-    → FindsAstray (Ok x) mid new b d told failed
-    → FindsAstray (Ok x) old new a d had failed
-astray-behind s x old mid new a b d had told failed h k = (
-  h.0 ++ k.0,
-  reads-more old mid new a b d h.0 k.0 h.1 k.1,
-  k.2 ∙ ap (λ z. z ++ k.0) h.2 ∙ append_assoc (octets_held old) h.0 k.0,
-  k.3,
-  k.4 ∙ h.4,
-)
-
--- a fault then
-pub astray-fault : (s : Bool) (fault : StreamFault) (old mid : PacketBuffer)
-    (a b d : Option (List ℕ)) (had told failed : Bool)
-    → ReadsAgain s (Ok None) old mid a b had told
-    → SearchFails fault (octets_held mid) (is_ended mid) b d told failed
-    → SearchFails fault (octets_held old) (is_ended old) a d had failed
-astray-fault s fault old mid a b d had told failed h k =
-    search-behind fault (octets_held old) (octets_held mid) (is_ended old) (is_ended mid) a b d h.0
-    had told failed h.1.consumed h.2 h.1.stays h.4 k
-
--- ---- octet after octet
-
--- behind the first octets that were held, so many were read, and of all the first n passed over
-pub record Passes (first now : PacketBuffer) (n : ℕ) (before after : Option (List ℕ)) : Type 0
-  where
-    pub read : List ℕ
-    pub reads : ReadsOn first now before after read
-    pub some : 0 < n
-    pub within : n ≤ length (octets_held first ++ read)
-    pub left : octets_held now ≡ drop n (octets_held first ++ read)
-    pub none : (k : ℕ) → 0 < k → k < n → NeverBegins (drop k (octets_held first ++ read))
-
--- behind a place among octets where none begins, with more behind them
-never-behind : (k : ℕ) (w more : List ℕ)
-    → k ≤ length w
-    → NeverBegins (drop k w)
-    → NeverBegins (drop k (w ++ more))
-never-behind k w more within none =
-    subst NeverBegins (sym (drop-append-le k w more within))
-    (λ rest. ap begins_again (append_assoc (drop k w) more rest) ∙ none (more ++ rest))
-
-stray-more : (b more : List ℕ) → IsStray b → IsStray (b ++ more)
-stray-more b more h = version-front b more (stray-some b h) ∙ h
-
--- the first octet
-pub passes-first : (first now : PacketBuffer) (a : Option (List ℕ))
-    → IsStray (octets_held first)
-    → octets_held now ≡ drop 1 (octets_held first)
-    → cut_of now ≡ cut_of first
-    → is_ended now ≡ is_ended first
-    → Passes first now 1 a a
-passes-first first now a stray left cut end =
-    let some = stray-some (octets_held first) stray in
-    record {
-      read = [];
-      reads = reads-none first now a cut end;
-      some = omega arith;
-      within = subst (λ x. 1 ≤ length x) (sym (append-nil (octets_held first)))
-          (omega (arith, some));
-      left = left ∙ ap (drop 1) (sym (append-nil (octets_held first)));
-      none = λ k low high. absurd (omega (arith, low, high));
-    }
+    → FindsPassing (Ok o) old new a b had failed
+    → failed ≡ had
+reader-found o old new a b had failed h = (read-goes o old new a b had failed h).4
 
 -- more is read
 passes-read : (first mid now : PacketBuffer) (n : ℕ) (a b d : Option (List ℕ)) (more : List ℕ)
     → Passes first mid n a b
     → ReadsOn mid now b d more
     → octets_held now ≡ octets_held mid ++ more
+    → is_in_step now ≡ is_in_step mid
     → Passes first now n a d
-passes-read first mid now n a b d more h came is =
-    let w = octets_held first in
-    let all : (w ++ h.read) ++ more ≡ w ++ (h.read ++ more) = append_assoc w h.read more in
-    let sum : length ((w ++ h.read) ++ more) ≡ length (w ++ h.read) + length more =
-    length-append (w ++ h.read) more in
+passes-read first mid now n a b d more h came is step =
+    let w = octets_held first ++ h.read in
+    let all : w ++ more ≡ octets_held first ++ (h.read ++ more) =
+    append_assoc (octets_held first) h.read more in
+    let sum : length (w ++ more) ≡ length w + length more = length-append w more in
+    let left : drop n (w ++ more) ≡ drop n w ++ more = drop-append-le n w more h.within in
     record {
       read = h.read ++ more;
       reads = reads-more first mid now a b d h.read more h.reads came;
-      some = h.some;
       within = subst (λ x. n ≤ length x) all (omega (arith, sum, h.within));
-      left = is ∙ ap (λ x. x ++ more) h.left
-          ∙ sym (drop-append-le n (w ++ h.read) more h.within) ∙ ap (drop n) all;
-      none = λ k low high. subst (λ x. NeverBegins (drop k x)) all
-          (never-behind k (w ++ h.read) more (omega (arith, high, h.within)) (h.none k low high));
+      left = is ∙ ap (λ x. x ++ more) h.left ∙ sym left ∙ ap (drop n) all;
+      leads = λ others last.
+          let was = h.leads (more ++ others)
+          (λ e. no-more more others (came.stays e).1 (last (came.stays e).0)) in
+          subst (λ v. LeadsBy (cut_of first) (is_in_step first) (v ++ others)
+          (strays_of (take n v)) (is_in_step now) (drop n v ++ others)) all
+          (subst (λ x. LeadsBy (cut_of first) (is_in_step first) x
+          (strays_of (take n (w ++ more))) (is_in_step now) (drop n (w ++ more) ++ others))
+          (sym (append_assoc w more others))
+          (subst (λ x. LeadsBy (cut_of first) (is_in_step first) (w ++ (more ++ others))
+          (strays_of (take n (w ++ more))) (is_in_step now) x)
+          (sym (ap (λ x. x ++ others) left ∙ append_assoc (drop n w) more others))
+          (subst (λ x. LeadsBy (cut_of first) (is_in_step first) (w ++ (more ++ others))
+          (strays_of x) (is_in_step now) (drop n w ++ (more ++ others)))
+          (sym (take-append-le n w more h.within))
+          (subst (λ t. LeadsBy (cut_of first) (is_in_step first) (w ++ (more ++ others))
+          (strays_of (take n w)) t (drop n w ++ (more ++ others))) (sym step) was))));
     }
-
--- one more is passed over
-passes-on : (first mid now : PacketBuffer) (n : ℕ) (a b : Option (List ℕ))
-    → Passes first mid n a b
-    → (0 < length (octets_held mid)) × NeverBegins (octets_held mid)
-    → octets_held now ≡ drop 1 (octets_held mid)
-    → cut_of now ≡ cut_of mid
-    → is_ended now ≡ is_ended mid
-    → Passes first now (n + 1) a b
-passes-on first mid now n a b h found is cut end =
-    let w = octets_held first ++ h.read in
-    let size : length (drop n w) + n ≡ length w = length-dropped w n h.within in
-    let some : 0 < length (drop n w) = subst (λ x. 0 < length x) h.left found.0 in
-    record {
-      read = h.read;
-      reads = reads-then first mid now a b h.read h.reads cut end;
-      some = omega (arith, h.some);
-      within = omega (arith, size, some);
-      left = is ∙ ap (drop 1) h.left ∙ drop-drop 1 n w;
-      none = λ k low high. go k low high (nat_lt k n) refl;
-    }
-  where
-    length-dropped : (w : List ℕ) (n : ℕ) → n ≤ length w → length (drop n w) + n ≡ length w
-    length-dropped w n within = omega (arith, length-drop n w, within)
-
-    go : (k : ℕ) → 0 < k → k < n + 1 → (t : Bool) → nat_lt k n ≡ t
-        → NeverBegins (drop k (octets_held first ++ h.read))
-    go k low high true e = h.none k low (grind (arith, nat_tests, e))
-    go k low high false e =
-        let same : n ≡ k = grind (arith, nat_tests, e, high) in
-        subst (λ m. NeverBegins (drop m (octets_held first ++ h.read))) same
-        (subst NeverBegins h.left found.1)
 
 -- both
-pub passes-next : (first was mid now : PacketBuffer) (n : ℕ) (a b d : Option (List ℕ))
-    (had failed : Bool)
+pub passes-next : (first was mid now : PacketBuffer) (o : Option Found) (n : ℕ)
+    (a b d : Option (List ℕ)) (had failed : Bool)
     → Passes first was n a b
-    → FindsAstray (Ok true) was mid b d had failed
+    → FindsPassing (Ok o) was mid b d had failed
+    → finds_stray o ≡ true
     → octets_held now ≡ drop 1 (octets_held mid)
     → cut_of now ≡ cut_of mid
+    → is_in_step now ≡ false
     → is_ended now ≡ is_ended mid
     → Passes first now (n + 1) a d
-passes-next first was mid now n a b d had failed h found left cut end =
-    passes-on first mid now n a d (passes-read first was mid n a b d found.0 h found.1 found.2)
-    found.3 left cut end
+passes-next first was mid now None n a b d had failed h found astray left cut step end = absurd cc
+passes-next first was mid now (Some f) n a b d had failed h found astray left cut step end =
+    let g = read-goes (Some f) was mid b d had failed found in
+    let next_n : suc n ≡ n + 1 = omega arith in
+    subst (λ k. Passes first now k a d) next_n
+    (passes-on first mid now f n a d (passes-read first was mid n a b d g.0 h g.1 g.2 g.3)
+    found.2 astray left cut step end)
+
+-- there is an octet to pass over
+pub some-there : (o : Option Found) (old new : PacketBuffer) (a b : Option (List ℕ))
+    (had failed : Bool)
+    → FindsPassing (Ok o) old new a b had failed
+    → finds_stray o ≡ true
+    → 1 ≤ length (octets_held new)
+some-there None old new a b had failed h astray = absurd cc
+some-there (Some f) old new a b had failed h astray = h.2.some
 
 -- ---- how it ends
 
--- what is known of a run, at its end
-run-here : (first now : PacketBuffer) (n : ℕ) (a b : Option (List ℕ)) (more : List ℕ)
-    → (h : Passes first now n a b)
-    → IsStray (octets_held first)
-    → (begins_again (octets_held now ++ more) ≡ true) ⊎ IsFront (octets_held now ++ more)
-    → IsRun n ((octets_held first ++ h.read) ++ more)
-run-here first now n a b more h stray next =
-    let w = octets_held first ++ h.read in
-    let sum = length-append w more in
-    let behind : drop n (w ++ more) ≡ octets_held now ++ more =
-    drop-append-le n w more h.within ∙ ap (λ x. x ++ more) (sym h.left) in
-    record {
-      some = h.some;
-      within = omega (arith, sum, h.within);
-      stray = stray-more w more (stray-more (octets_held first) h.read stray);
-      none = λ k low high. never-behind k w more (omega (arith, high, h.within))
-          (h.none k low high);
-      next = subst (λ x. (begins_again x ≡ true) ⊎ IsFront x) (sym behind) next;
-    }
+ends-strays : (p : Passing) (o : Option Found) (old new : PacketBuffer) (a b : Option (List ℕ))
+    (had failed : Bool)
+    → FindsPassing (Ok o) old new a b had failed
+    → finds_stray o ≡ false
+    → cut_of new ≡ Resumed p.longest
+    → (more : List ℕ) → (is_ended new ≡ true → more ≡ [])
+    → EndsStrays p (is_in_step new) (octets_held new ++ more)
+ends-strays p None old new a b had failed h none cut more last =
+    inl (no-more (octets_held new) more h.2 (last h.3))
+ends-strays p (Some f) old new a b had failed h none cut more last =
+    inr (ap (λ x. is_stray (piece_by x (is_in_step new) (octets_held new ++ more)).kind) (sym cut)
+    ∙ ap (λ (q : Piece). is_stray q.kind) (h.2.is more last)
+    ∙ none)
 
--- a packet stands behind it, or less than one at the end
-pub passes-end : (first was mid now : PacketBuffer) (n : ℕ) (a b d : Option (List ℕ))
-    (told had failed : Bool)
+-- a packet stands behind it, or nothing at the end
+pub passes-end : (p : Passing) (first was now : PacketBuffer) (o : Option Found) (n : ℕ)
+    (a b d : Option (List ℕ)) (told had failed : Bool)
     → Passes first was n a b
-    → IsStray (octets_held first)
+    → cut_of first ≡ Resumed p.longest
+    → 0 < n
     → had ≡ told
-    → FindsAstray (Ok false) was mid b d had failed
-    → octets_held now ≡ octets_held mid
-    → cut_of now ≡ cut_of mid
-    → is_in_step now ≡ true
-    → is_ended now ≡ is_ended mid
-    → PassesOver (Ok n) first now a d told failed
-passes-end first was mid now n a b d told had failed h stray same found held cut step end =
-    let k = passes-read first was mid n a b d found.0 h found.1 found.2 in (
+    → FindsPassing (Ok o) was now b d had failed
+    → finds_stray o ≡ false
+    → PassesOver p (Ok n) first now a d told failed
+passes-end p first was now o n a b d told had failed h cut some same found none =
+    let g = read-goes o was now b d had failed found in
+    let k = passes-read first was now n a b d g.0 h g.1 g.2 g.3 in
+    let w = octets_held first ++ k.read in (
       k.read,
-      reads-then first mid now a d k.read k.reads cut end,
-      step,
-      held ∙ k.left,
-      (λ more last. run-here first mid n a d more k stray
-          (found.3 more (λ e. last (end ∙ e)))),
-      found.4 ∙ same,
+      k.reads,
+      k.left,
+      some,
+      k.within,
+      (λ more last. (
+        subst (λ c. LeadsBy c (is_in_step first) (w ++ more) (strays_of (take n w))
+            (is_in_step now) (drop n w ++ more)) cut (k.leads more last),
+        subst (λ x. EndsStrays p (is_in_step now) (x ++ more)) k.left
+            (ends-strays p o was now b d had failed found none (k.reads.cut ∙ cut) more last),
+      )),
+      g.4 ∙ same,
     )
 
 -- where so many octets are left of others, there are so many others

@@ -10,14 +10,16 @@ use Rattle.lpt_node.specs.Nodes.{NodeData}
 use Rattle.lpt_text.specs.Streams.{AppendsPart}
 use Rattle.lpt_text.specs.declared.fault.StreamFault.{StreamFault}
 use Rattle.lpt_text.specs.declared.fault.StreamFault.TheVariants as faults
-use Rattle.lpt_stream.specs.Pieces.{up_to_limit}
-use Rattle.lpt_stream.specs.Streams.{all_octets, IsUnfinished}
+use Rattle.lpt_stream.specs.Pieces.{is_awaited, piece_by, up_to_limit}
+use Rattle.lpt_stream.specs.Streams.{all_octets, length_at}
+use Rattle.lpt_stream.specs.declared.cut.Cut.TheVariants.{Resumed}
 use Rattle.lpt_spacecraft.specs.Flights.{FlightEvent, Flight, Made, dues_of, inputs_of, new_flight, inputs_served, stretches_of}
 use Rattle.lpt_spacecraft.specs.Serving.{Onboard}
-use Rattle.lpt_spacecraft.specs.Stretches.{stretch_octets, IsCutInto, IsStray}
+use Rattle.lpt_spacecraft.specs.Stretches.{is_taken, stretch_octets, IsCutInto}
 use Rattle.lpt_spacecraft.specs.Telling.{Hears}
 use Rattle.lpt_spacecraft.specs.declared.pace.PaceCourse.{PaceCourse}
 use Rattle.lpt_spacecraft.specs.declared.pace.Pace.{Pace}
+use Rattle.lpt_spacecraft.specs.declared.passing.Passing.{Passing}
 use Rattle.lpt_spacecraft.specs.declared.spacecraft.Spacecraft.{Spacecraft}
 use Rattle.lpt_spacecraft.specs.declared.stop.Stop.{Stop}
 use Rattle.lpt_spacecraft.specs.declared.stop.Stop.TheVariants.{End, Cut, Stray}
@@ -86,7 +88,7 @@ Answers false before after dues = (after ≡ before) × AllByRecursion (λ n. n 
 
 -- octets were read, and cut into events and a rest of which this holds; those that are lost were
 -- read behind them
-abbrev pub ReadsCut : (passing : Bool) → (before after : Option (List ℕ)) → (lost : List ℕ)
+abbrev pub ReadsCut : Passing → (before after : Option (List ℕ)) → (lost : List ℕ)
     → (List FlightEvent → List ℕ → Type 0) → Type 0
 ReadsCut passing before after lost P =
     (stream : List ℕ) × (events : List FlightEvent) × (rest : List ℕ)
@@ -97,15 +99,26 @@ ReadsCut passing before after lost P =
 abbrev pub length_of : List FlightEvent → ℕ
 length_of events = length (stretch_octets (stretches_of events))
 
--- Work stops there: behind so many octets, before this rest; and before octets with which no packet
--- begins only if these aren't passed over.
-abbrev pub StopsAt : (passing : Bool) → Stop → (len : ℕ) → (rest : List ℕ)
-    → (after : Option (List ℕ)) → Type 0
+-- in step no piece is in front that is taken, whatever comes behind these octets
+abbrev pub IsNotTaken : Passing → (rest : List ℕ) → (after : Option (List ℕ)) → Type 0
+IsNotTaken passing rest after =
+    (more : List ℕ) → (IsAtEnd after → more ≡ [])
+    → is_taken passing (piece_by (Resumed passing.longest) true (rest ++ more)).kind
+    (piece_by (Resumed passing.longest) true (rest ++ more)).octets
+    ≡ false
+
+-- Work stops there, behind so many octets and before this rest: at the stream's end; or there in a
+-- packet, of which less came than its header says, as far as that has come; or before what is no
+-- packet, if that isn't passed over. It is told how long the packet would be.
+abbrev pub StopsAt : Passing → Stop → (len : ℕ) → (rest : List ℕ) → (after : Option (List ℕ))
+    → Type 0
 StopsAt passing End len rest after = (rest ≡ []) × IsAtEnd after
-StopsAt passing (Cut place) len rest after =
-    (place ≡ up_to_limit len) × IsUnfinished rest × (0 < length rest) × IsAtEnd after
-StopsAt passing (Stray place) len rest after =
-    (place ≡ up_to_limit len) × IsStray rest × (passing ≡ false)
+StopsAt passing (Cut place said) len rest after =
+    (place ≡ up_to_limit len) × (said ≡ length_at rest) × (0 < length rest)
+    × (is_awaited passing.longest rest ≡ true) × IsAtEnd after
+StopsAt passing (Stray place said) len rest after =
+    (place ≡ up_to_limit len) × (said ≡ length_at rest) × (passing.is_on ≡ false)
+    × IsNotTaken passing rest after
 
 -- all of these were taken, what they make was written, and what they tell was told; the clock
 -- answered so before each packet
@@ -149,7 +162,7 @@ ServesTo pace (Err faults.Memory) s t before after old new asked answered had ha
     BreaksOff pace s t old new asked answered had has events)
 
 -- 2^64 - 1 packets and runs were read, or as many requests released, or octets passed over
-abbrev pub IsEndless : (passing : Bool) → Spacecraft → (before after : Option (List ℕ)) → Type 0
+abbrev pub IsEndless : Passing → Spacecraft → (before after : Option (List ℕ)) → Type 0
 IsEndless passing t before after =
     ReadsCut passing before after [] (λ events rest. length events ≡ 2 ^ 64 - 1)
     ⊎ ((jobs_numbered t.node.at.jobs ≡ 2 ^ 64 - 1)

@@ -12,6 +12,7 @@ use Rattle.lpt_spacecraft.specs.Telling.{Hears}
 use Rattle.lpt_spacecraft.specs.declared.inlet.Happening.{Happening}
 use Rattle.lpt_spacecraft.specs.declared.inlet.Happening.TheVariants as happens
 use Rattle.lpt_spacecraft.specs.declared.pace.Pace.{Pace}
+use Rattle.lpt_spacecraft.specs.declared.passing.Passing.{Passing}
 use Rattle.lpt_spacecraft.specs.declared.spacecraft.Spacecraft.{Spacecraft}
 use Rattle.lpt_spacecraft.specs.declared.stop.Stop.{Stop}
 use Rattle.lpt_spacecraft.specs.declared.told.Told.{Told}
@@ -133,7 +134,7 @@ handed_from place (s ∷ ss) = handed_as place s ∷ handed_from (place + length
 
 -- Octets were read, and cut into stretches, which were handed over, and a rest, of which this
 -- holds; those that are lost were read behind it.
-pub record HandsFront (passing : Bool) (before after : Option (List ℕ))
+pub record HandsFront (passing : Passing) (before after : Option (List ℕ))
     (had has : Option (List Happening)) (lost : List ℕ) (P : (len : ℕ) → (rest : List ℕ) → Type 0) :
     Type 0 where
   pub stream : List ℕ
@@ -147,7 +148,7 @@ pub record HandsFront (passing : Bool) (before after : Option (List ℕ))
 -- How the handing over of a stream ends. Some: where it stops, all stretches before that were
 -- handed over. None, Read: those that were cut off were. Memory: the same, and octets that found no
 -- memory are lost.
-abbrev pub HandsOver : (passing : Bool) → Result (Option Stop) StreamFault
+abbrev pub HandsOver : Passing → Result (Option Stop) StreamFault
     → (before after : Option (List ℕ)) → (had has : Option (List Happening)) → Type 0
 HandsOver passing (Ok (Some stop)) before after had has =
     HandsFront passing before after had has [] (λ len rest. StopsAt passing stop len rest after)
@@ -166,7 +167,7 @@ unwritten_fault faults.Write = faults.Memory
 unwritten_fault faults.Memory = faults.Memory
 
 -- 2^64 - 1 stretches were read, or so many octets passed over
-abbrev pub IsUnending : (passing : Bool) → (before after : Option (List ℕ)) → Type 0
+abbrev pub IsUnending : Passing → (before after : Option (List ℕ)) → Type 0
 IsUnending passing before after =
     ((stream : List ℕ) × (stretches : List Stretch) × (rest : List ℕ)
     × Consumes before after stream × IsCutInto passing stream stretches rest

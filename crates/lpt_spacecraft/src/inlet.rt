@@ -11,7 +11,7 @@ use lpt_text::{Sink, StreamFault};
 pub enum Happening {
     /// A packet comes.
     Packet(Octets),
-    /// So many octets at this place were passed over: no packet begins there.
+    /// So many octets at this place were passed over: they are no packet.
     Skipped { place: u64, len: u64 },
     /// Nothing came for a while.
     Nothing,

@@ -19,6 +19,13 @@ impl Spacecraft {
         self.config.source
     }
 
+    /// The configured part size, in octets.
+    pub fn part_size(&self) -> u32
+        ensures { result ≡ self.now.config.part_size }
+    {
+        self.config.part_size
+    }
+
     // The clock, in ticks.
     pub(crate) fn clock(&self) -> u32
         ensures { result ≡ self.now.node.at.clock }

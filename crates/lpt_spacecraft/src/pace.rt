@@ -5,8 +5,8 @@ ghost use Rattle.lpt_spacecraft.specs.Changes.{ticks_with};
 ghost use Rattle.lpt_spacecraft.specs.Flights.{names_cleared, due_now, name_freed, state_of, told_freed, use_of, uses_of};
 ghost use Rattle.lpt_spacecraft.specs.Telling.{all_noted, name_used, took, used_up};
 
-use crate::Spacecraft;
 use crate::told::{Taken, Told};
+use crate::{Passing, Spacecraft};
 use lpt_packet::{Direction, Name};
 use lpt_text::StreamFault;
 use std::alloc::Global;
@@ -21,9 +21,8 @@ pub struct Pace {
     pub clocked: bool,
     /// How many ticks after its use a name is free again; at 0 never.
     pub reuse: u32,
-    /// Whether octets with which no packet can begin are passed over; otherwise they end the
-    /// stream.
-    pub passing: bool,
+    /// What of the stream is taken, and what isn't.
+    pub passing: Passing,
 }
 
 /// A name that was used: its reception ended, or its report was sent.

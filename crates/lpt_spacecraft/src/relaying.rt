@@ -4,24 +4,24 @@ ghost use Rattle.std.specs.Prelude.{◌≡◌, ◌⊎◌, false, None, IfErr, If
 ghost use Rattle.lpt_text.specs.Streams.{ReadEnds};
 ghost use Rattle.lpt_spacecraft.specs.Waiting.{unwritten_fault, HandsOver, IsUnending};
 
-use crate::Stop;
 use crate::front::{Front, find_front};
 use crate::inlet::{Happening, Relay};
+use crate::{Passing, Stop};
 use lpt_packet::Octets;
 use lpt_stream::{Cut, Found, PacketBuffer, Peer, PieceKind};
 use lpt_text::{FromStd, StreamFault};
 use std::alloc::Global;
 
-/// Reads a stream of packets to its end, or up to octets with which no packet can begin, or until
-/// no more is taken, and hands over each packet. It is cut as `serve_stream` cuts it: if `passing`
-/// says so, such octets are passed over, and what is handed over says where and how many they are.
+/// Reads a stream of packets to its end, or up to what is no packet, or until no more is taken, and
+/// hands over each packet. It is cut as `serve_stream` cuts it: if `passing` says so, what is no
+/// packet is passed over, and what is handed over says where and how many octets that are.
 ///
 /// It answers where it stopped, or none if no more is taken. Errors: `Read` if a read failed, or if
-/// 2^64 - 1 packets and runs of such octets came, or so many octets are passed over; `Memory`, with
+/// 2^64 - 1 packets and runs of others came, or so many octets are passed over; `Memory`, with
 /// which some octets of the stream are lost. A front part was handed over.
 pub fn relay_stream<P: Peer, R: Relay>(
     alloc: Global,
-    passing: bool,
+    passing: Passing,
     peer: &mut P,
     relay: &mut R,
 ) -> Result<Option<Stop>, StreamFault>
@@ -36,7 +36,7 @@ pub fn relay_stream<P: Peer, R: Relay>(
 {
     // Nothing is written here.
     let mut out = FromStd::new(Vec::new(alloc));
-    let mut buffer = PacketBuffer::new(alloc, Cut::Resumed);
+    let mut buffer = PacketBuffer::new(alloc, Cut::Resumed(passing.longest));
     let mut place: u64 = 0;
     for count in 0..u64::MAX {
         let len = match find_front(&mut buffer, passing, place, peer, &mut out) {

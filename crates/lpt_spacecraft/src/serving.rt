@@ -18,15 +18,16 @@ use crate::{Clock, Keeper, Listener, Pace, Spacecraft, Stop, Told};
 use lpt_stream::{Cut, Found, PacketBuffer, Peer, PieceKind};
 use lpt_text::{FromStd, Sink, StreamFault, flush_out};
 
-/// Reads a stream of packets to its end, or up to octets with which no packet can begin, takes each
-/// packet, and ticks at this pace. It is cut by the lengths that headers say. Behind each packet
-/// the spacecraft is kept, unless it still is as it was kept last; then what it made is written,
-/// and then what there is to tell is told.
+/// Reads a stream of packets to its end, or up to what is no packet, takes each packet, and ticks
+/// at this pace. It is cut by the rule `Resumed`: a packet is one whose checksum is right, and that
+/// isn't longer than the longest. Behind each packet the spacecraft is kept, unless it still is as
+/// it was kept last; then what it made is written, and then what there is to tell is told.
 /// Before each read, and at the end, `out` passes on all that was written.
 ///
-/// If the pace says so, such octets are passed over, up to the next packet whose checksum is
-/// right, and that is told; and before a packet is taken the clock is asked, and all ticks that are
-/// due by it come.
+/// If the pace says so, what is no packet is passed over, and that is told: a damaged packet by its
+/// length, or octets astray, all of them. Otherwise a damaged packet of version 0 is taken as well,
+/// of which the node says that it can't be read. And if the pace says so, before a packet is taken
+/// the clock is asked, and all ticks that are due by it come.
 ///
 /// Errors: `Read` if a read failed, after all packets before it; or if 2^64 - 1 packets came,
 /// or as many requests, or so many octets are passed over; `Write` if a write failed; `Memory`,
@@ -58,7 +59,7 @@ pub fn serve_stream<P: Peer, C: Clock, H: Keeper, L: Listener, K: Sink>(
         (P.remaining peer.new)) result (P.failed peer.old) (P.failed peer.new) }
     ensures writer { WriteEnds result (K.failed out.old) (K.failed out.new) }
 {
-    let mut buffer = PacketBuffer::new(craft.alloc, Cut::Resumed);
+    let mut buffer = PacketBuffer::new(craft.alloc, Cut::Resumed(pace.passing.longest));
     let mut course = PaceCourse::new(craft.alloc, pace);
     let mut place: u64 = 0;
     for count in 0..u64::MAX {

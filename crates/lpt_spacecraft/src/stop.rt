@@ -6,8 +6,9 @@
 pub enum Stop {
     /// At the stream's end.
     End,
-    /// At the stream's end, in a packet: from this place on there is less than its header says.
-    Cut(u64),
-    /// Before octets with which no packet can begin.
-    Stray(u64),
+    /// At the stream's end, in a packet: from this place on there is less than its header says,
+    /// which is so many octets, if the header has come.
+    Cut(u64, Option<usize>),
+    /// Before octets that are no packet: their header says so many octets, if that has come.
+    Stray(u64, Option<usize>),
 }

@@ -19,7 +19,7 @@ pub enum Told {
     Freed(Direction, Name),
     /// This source has no free name left in this direction.
     UsedUp(Direction, u16),
-    /// So many octets at this place were passed over: no packet begins there.
+    /// So many octets at this place were passed over: they are no packet.
     Skipped { place: u64, len: u64 },
 }
 

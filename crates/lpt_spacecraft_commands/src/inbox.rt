@@ -5,7 +5,7 @@ ghost use Rattle.std.specs.Prelude.{None};
 use crate::ticker::Ticker;
 use crossbeam_channel::{Receiver, RecvTimeoutError, Sender, bounded};
 use lpt_io::{Failure, Fault};
-use lpt_spacecraft::{Happening, Inlet, Relay, relay_stream};
+use lpt_spacecraft::{Happening, Inlet, Passing, Relay, relay_stream};
 use lpt_text::{Sink, Source, StreamFault};
 use std::alloc::Global;
 use std::sync::Wait;
@@ -59,8 +59,8 @@ where
     R: Clock + AllocGlobal + Copy + Drop,
     T: Threads + Wait + Clock + Copy + Drop + Send + 'static,
 {
-    /// Starts a thread that reads this source, and cuts it into packets; octets that are none are
-    /// passed over, or end it. The ticks are those of this clock.
+    /// Starts a thread that reads this source, and cuts it into packets; what is none is passed
+    /// over, or ends it. The ticks are those of this clock.
     ///
     /// The thread isn't joined: it ends with its source, with the process, or once it has something
     /// to hand over and this is gone. Errors: `Read` if it couldn't be started; `Memory`.
@@ -68,7 +68,7 @@ where
         rt: &R,
         threads: &T,
         source: S,
-        passing: bool,
+        passing: Passing,
         ticker: Ticker<R>,
     ) -> Result<Self, Failure> {
         let alloc = rt.alloc();
@@ -99,7 +99,7 @@ where
 // Hands over what this source gives, and then where it stopped, or why it gave no more.
 fn read_all<T: Wait + Drop, S: Source + Drop>(
     alloc: Global,
-    passing: bool,
+    passing: Passing,
     source: S,
     handing: Handing<T>,
 ) {

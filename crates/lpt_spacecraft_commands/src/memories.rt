@@ -1,7 +1,6 @@
 //! The memories whose first contents are files.
 
 use lpt_command_line::SpacecraftWords;
-use lpt_end_machine::is_same;
 use lpt_io::{Failure, Fault, Machine, octets_from, open_input};
 use lpt_memory::{MEMORY_LIMIT, Memories, SIZE_LIMIT};
 use lpt_packet::Octets;
@@ -10,8 +9,8 @@ use std::rt::Files;
 
 /// Refuses memories that the words can't name beside each other. No file is read.
 ///
-/// Errors: `Config` if there are more than 16, or two of one identifier, or two of one file in
-/// which they are saved; `Read` if a file isn't there.
+/// Errors: `Config` if there are more than 16, or two of one identifier; `Read` if a file isn't
+/// there.
 pub fn check_memories(
     rt: &(impl Files + AllocGlobal),
     words: &SpacecraftWords<'_>,
@@ -29,8 +28,8 @@ pub fn check_memories(
     Ok(())
 }
 
-// Refuses the memory of this number, from 0 on, if there was one of its identifier before it, or
-// one that is saved in the same file, or if its file isn't there.
+// Refuses the memory of this number, from 0 on, if there was one of its identifier before it, or if
+// its file isn't there.
 fn check_memory(
     rt: &(impl Files + AllocGlobal),
     words: &SpacecraftWords<'_>,
@@ -38,16 +37,10 @@ fn check_memory(
     id: u8,
     file: &str,
 ) -> Result<(), Failure> {
-    for (known, path) in words.memories.iter().take(number) {
+    for (known, _) in words.memories.iter().take(number) {
         if *known == id {
             let place = format!(in rt.alloc();
                 "--memory {id}={file}: there is a memory {id} already"
-            );
-            return Err(Failure::at(Fault::Config, place));
-        }
-        if words.save && is_same(rt, path, file) {
-            let place = format!(in rt.alloc();
-                "--memory {id}={file}: memory {known} is saved there already"
             );
             return Err(Failure::at(Fault::Config, place));
         }

@@ -8,9 +8,11 @@ use crate::keeping::save_all;
 use crate::memories::{check_memories, memories_of};
 use crate::wires::{Wires, serve_kept};
 use lpt_command_line::{SettingWords, SpacecraftWords};
-use lpt_end_machine::{EndMachine, PlainMachine, locked_file};
+use lpt_end_machine::{
+    EndMachine, PlainMachine, UsedFile, add_craft_files, add_settings_file, locked_file, used_twice,
+};
 use lpt_events::Config;
-use lpt_io::{Failure, Fault, Machine, Status, octets_from, open_input, settings_of};
+use lpt_io::{Failure, Fault, Machine, Status, octets_from, open_input, settings_of, word_refused};
 use lpt_memory::Memories;
 use lpt_spacecraft::Spacecraft;
 use std::alloc::{AllocError, Global};
@@ -41,11 +43,40 @@ where
     R: EndMachine,
     T: Threads + Wait + Clock + Copy + Drop + Send + 'static,
 {
+    let files = files_used(rt.alloc(), settings, words)?;
+    if let Some(fault) = used_twice(rt, &files) {
+        return Ok(word_refused(rt, rt.alloc(), &fault));
+    }
     let (begun, locks) = begun_craft(rt, process, settings, words)?;
     let wires = Wires::Standard(rt.standard_input());
     let ended = serve(rt, threads, begun, words, wires);
     drop(locks);
     ended
+}
+
+// The files that these words use.
+//
+// Errors: `Memory`.
+fn files_used<'a>(
+    alloc: Global,
+    settings: &SettingWords<'a>,
+    words: &SpacecraftWords<'a>,
+) -> Result<Vec<UsedFile<'a>>, Failure> {
+    let mut files = Vec::new(alloc);
+    match add_files(&mut files, settings, words) {
+        Ok(()) => Ok(files),
+        Err(_) => Err(Failure::from(Fault::Memory)),
+    }
+}
+
+// Adds them. The only error is out of memory.
+fn add_files<'a>(
+    files: &mut Vec<UsedFile<'a>>,
+    settings: &SettingWords<'a>,
+    words: &SpacecraftWords<'a>,
+) -> Result<(), AllocError> {
+    add_settings_file(files, settings)?;
+    add_craft_files(files, words)
 }
 
 /// A spacecraft that serves next.

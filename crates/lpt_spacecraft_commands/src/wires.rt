@@ -8,13 +8,13 @@ use crate::keeping::{keep_failure, kept_files};
 use crate::logging::{Log, Silent};
 use crate::pipes::{PipeReader, PipeWriter};
 use crate::ticker::{Stopped, Ticker};
-use lpt_command_line::SpacecraftWords;
+use lpt_command_line::{SpacecraftWords, longest_on_link};
 use lpt_end_machine::PlainMachine;
 use lpt_io::{
     Failure, Fault, STANDARD, Status, Watched, finish, first_failure, output, read_failure,
     tell_place,
 };
-use lpt_spacecraft::{Keeper, Pace, Spacecraft, Stop, serve_stream, serve_waiting};
+use lpt_spacecraft::{Keeper, Pace, Passing, Spacecraft, Stop, serve_stream, serve_waiting};
 use lpt_text::{FromStd, StreamFault};
 use std::io::Read;
 use std::sync::Wait;
@@ -100,7 +100,7 @@ fn serve_input<R: PlainMachine, I: Read + Drop, H: Keeper>(
 {
     let mut source = FromStd::new(Watched::new(input));
     let mut out = output(rt)?;
-    let pace = pace_of(words);
+    let pace = pace_of(craft, words);
     let mut log = Log::new(rt, craft.source(), words.log);
     let ended = serve_stream(
         craft,
@@ -118,7 +118,7 @@ fn serve_input<R: PlainMachine, I: Read + Drop, H: Keeper>(
     drop(source);
     first_failure(finish(rt, out), failure)?;
     match ended {
-        Ok(stop) => Ok(status_at(rt, stop, log.has_skipped())),
+        Ok(stop) => Ok(status_at(rt, stop, pace.passing.longest, log.has_skipped())),
         Err(fault) => Err(Failure::from(fault)),
     }
 }
@@ -141,9 +141,9 @@ where
 {
     let mut clock = Ticker::new(rt, words.tick)?;
     let source = FromStd::new(input);
-    let mut inbox = Inbox::begin(rt, threads, source, words.resync, clock)?;
+    let pace = pace_of(craft, words);
+    let mut inbox = Inbox::begin(rt, threads, source, pace.passing, clock)?;
     let mut out = output(rt)?;
-    let pace = pace_of(words);
     let mut log = Log::new(rt, craft.source(), words.log);
     let ended = serve_waiting(
         craft, pace, &mut inbox, &mut clock, keeper, &mut log, &mut out,
@@ -155,7 +155,7 @@ where
     };
     first_failure(finish(rt, out), failure)?;
     match ended {
-        Ok(stop) => Ok(status_at(rt, stop, log.has_skipped())),
+        Ok(stop) => Ok(status_at(rt, stop, pace.passing.longest, log.has_skipped())),
         Err(fault) => Err(Failure::from(fault)),
     }
 }
@@ -182,9 +182,9 @@ where
     let (source, out) = pipes;
     let mut clock = Ticker::new(rt, words.tick)?;
     let source = FromStd::new(source);
-    let mut inbox = Inbox::begin(rt, threads, source, words.resync, clock)?;
+    let pace = pace_of(craft, words);
+    let mut inbox = Inbox::begin(rt, threads, source, pace.passing, clock)?;
     let mut out = FromStd::new(Watched::new(out));
-    let pace = pace_of(words);
     let ended = serve_waiting(
         craft,
         pace,
@@ -203,7 +203,7 @@ where
 }
 
 // The same if no clock ticks.
-fn serve_still<T: Wait + Drop, H: Keeper>(
+fn serve_still<T: Wait + Clock + Drop, H: Keeper>(
     craft: &mut Spacecraft,
     words: &SpacecraftWords<'_>,
     keeper: &mut H,
@@ -215,9 +215,10 @@ fn serve_still<T: Wait + Drop, H: Keeper>(
     let (source, out) = pipes;
     let mut source = FromStd::new(source);
     let mut out = FromStd::new(Watched::new(out));
+    let pace = pace_of(craft, words);
     let ended = serve_stream(
         craft,
-        pace_of(words),
+        pace,
         &mut source,
         &mut Stopped,
         keeper,
@@ -238,23 +239,42 @@ fn input_failure(rt: &impl AllocGlobal) -> Failure {
     Failure::at(Fault::Read, place)
 }
 
-// How its clock goes, and whether it goes on behind octets that are no packet.
-fn pace_of(words: &SpacecraftWords<'_>) -> Pace {
+// How its clock goes, and what of the stream is taken.
+fn pace_of(craft: &Spacecraft, words: &SpacecraftWords<'_>) -> Pace {
     Pace {
         every: words.tick_every,
         clocked: false,
         reuse: words.reuse,
-        passing: words.resync,
+        passing: Passing {
+            longest: longest_on_link(words.longest, craft.part_size()),
+            is_on: words.resync,
+        },
     }
 }
 
 // The status of work that stopped there, which is told, and that passed over octets or didn't.
-fn status_at(rt: &(impl Eprint + AllocGlobal), stop: Stop, has_skipped: bool) -> Status {
+fn status_at(
+    rt: &(impl Eprint + AllocGlobal),
+    stop: Stop,
+    longest: usize,
+    has_skipped: bool,
+) -> Status {
+    let alloc = rt.alloc();
     let text = match stop {
         Stop::End if has_skipped => return Status::Refused,
         Stop::End => return Status::Done,
-        Stop::Cut(place) => format!(in rt.alloc(); "octet {place}: the last packet isn't whole"),
-        Stop::Stray(place) => format!(in rt.alloc(); "octet {place}: no packet begins there"),
+        Stop::Cut(place, Some(said)) => {
+            format!(in alloc; "inside a packet of {said} octets since octet {place}")
+        }
+        Stop::Cut(place, None) => {
+            format!(in alloc; "inside a packet's header since octet {place}")
+        }
+        Stop::Stray(place, Some(said)) if said > longest => {
+            format!(in alloc;
+                "octet {place}: no packet begins there: {said} octets, but --longest is {longest}"
+            )
+        }
+        Stop::Stray(place, _) => format!(in alloc; "octet {place}: no packet begins there"),
     };
     if let Ok(text) = text {
         tell_place(rt, text.as_str());

@@ -1,3 +1,2 @@
 mod ListLemmas
-mod OwnLemmas
 mod PacketLemmas

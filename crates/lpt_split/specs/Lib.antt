@@ -1,6 +1,5 @@
 pub mod Forms
 pub mod Lists
 pub mod Messages
-pub mod Own
 pub mod Packets
 pub mod Splits

@@ -1,10 +1,6 @@
 -- The packets of a message's parts.
 use Rattle.std.specs.Prelude.{ℕ, ◌+◌, ◌%◌, ◌≤◌, List, [], ◌∷◌}
 use Rattle.std.specs.List.{flat_map}
-use Rattle.lpt_packet.specs.Names.{Name}
-use Rattle.lpt_packet.specs.declared.direction.Direction.{Direction}
-use Rattle.lpt_events.specs.declared.config.Config.{Config}
-use Rattle.lpt_events.specs.MadePackets.{nth_part, part_made}
 use Rattle.lpt_capture.specs.Captures.{capture_of}
 use Rattle.lpt_split.specs.declared.form.Form.{Form}
 use Rattle.lpt_split.specs.declared.form.Form.TheVariants.{Plain, Capture}
@@ -23,13 +19,6 @@ pub record IsNumber (parts n : ℕ) : Type 0 where
 abbrev pub AreNumbers : ℕ → List ℕ → Type 0
 AreNumbers parts [] = Unit {0}
 AreNumbers parts (n ∷ ns) = IsNumber parts n × AreNumbers parts ns
-
--- the packets of these parts, which go under this name, of sequence counts from this one on
-abbrev pub split_of : Config → Direction → Name → List ℕ → (count : ℕ) → List ℕ → List (List ℕ)
-split_of c d name m count [] = []
-split_of c d name m count (n ∷ ns) =
-    part_made c d name.source count 0 c.clock (nth_part c.part_size name.id m n)
-    ∷ split_of c d name m (next_count count) ns
 
 -- the octets of packets, one behind the other
 abbrev pub octets_of : List (List ℕ) → List ℕ

@@ -1,7 +1,7 @@
 //! A message split into the packets of its parts (ECSS-E-ST-70-41C, large packet transfer), by a
 //! layout, of which the profile's is one: part by part, in the order in which they are asked for,
-//! and as often. At the profile's own layouts a packet is the one that the sending node puts on the
-//! link for that part, which `laws::the_own_splits` says.
+//! and as often. At the profile's own layouts packets and parts are written as the profile's, which
+//! `lpt_layout::laws::the_own_layouts` says.
 //!
 //! A part list names parts of a message, as `3,7-9,12-`.
 //!
@@ -12,7 +12,6 @@
 #![tactic(auto)]
 
 mod form;
-pub mod laws;
 mod lists;
 mod message;
 mod packet;

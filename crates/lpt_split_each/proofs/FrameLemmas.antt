@@ -6,27 +6,12 @@ use Rattle.lpt_packet.specs.Numbers.{IsOctets, word_at}
 use Rattle.lpt_packet.proofs.BoolLemmas.{and_both, le_true}
 use Rattle.lpt_stream.specs.declared.cut.Cut.TheVariants.{Framed}
 use Rattle.lpt_stream.specs.declared.piece_kind.PieceKind.TheVariants.{Whole, Damaged, Stray}
-use Rattle.lpt_stream.specs.Pieces.{Piece, begins_by, is_framed, is_version, kind_by, lookahead, piece_by, size_in}
+use Rattle.lpt_stream.specs.Pieces.{begins_by, is_framed, is_version, lookahead, piece_by}
 use Rattle.lpt_stream.specs.Streams.{IsUnfinished}
 use Rattle.lpt_stream.proofs.StreamLemmas.{word_at-front}
-use Rattle.lpt_split_each.specs.Streams.{IsFront, IsNext}
+use Rattle.lpt_split_each.specs.Streams.{IsFront}
 
 -- ---- a packet
-
--- it has some octets
-pub some-octets : (m rest : List ℕ) → IsNext m rest → 0 < length m
-unfolding piece_by
-some-octets m rest (behind, (some, is, left)) =
-    let near = take lookahead rest in
-    let size : size_in (kind_by Framed true near) near ≡ 7 + word_at near 4 =
-    ap (λ k. size_in k near) (sym (ap (λ (p : Piece). p.kind) is)) in
-    omega (
-      arith,
-      ap (λ (p : Piece). length p.octets) is,
-      length-take (size_in (kind_by Framed true near) near) rest,
-      size,
-      some,
-    )
 
 -- the version stands in the first octet, whatever comes behind
 version-front : (b more : List ℕ) → 0 < length b → is_version (b ++ more) ≡ is_version b

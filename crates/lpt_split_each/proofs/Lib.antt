@@ -1,5 +1,3 @@
 mod FrameLemmas
-mod OwnLemmas
-mod OwnSplitLemmas
 pub mod ShareLemmas
 pub mod StreamLemmas

@@ -1,5 +1,4 @@
 pub mod Messages
-pub mod Own
 pub mod Shares
 pub mod Streams
 pub mod StreamsInside

@@ -13,7 +13,6 @@
 
 mod each_wanted;
 mod ending;
-pub mod laws;
 mod one;
 mod pick;
 mod splitting;

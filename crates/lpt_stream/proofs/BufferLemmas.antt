@@ -14,8 +14,8 @@ use Rattle.lpt_stream.specs.declared.found.Found.{Found}
 use Rattle.lpt_stream.specs.declared.piece_kind.PieceKind.{PieceKind}
 use Rattle.lpt_stream.specs.declared.piece_kind.PieceKind.TheVariants.{Whole}
 use Rattle.lpt_stream.specs.Buffers.{cut_of, octets_held, is_in_step, is_ended, found_piece, IsInFront, IsUnsettled, Adds, Goes, IsAsked, IsOpenAt, Fills, FindsPiece, FindsPassing}
-use Rattle.lpt_stream.specs.Pieces.{lookahead, begins_by, is_framed, kind_by, size_in, piece_by, waits_by}
-use Rattle.lpt_stream.proofs.ByLemmas.{packet_stays_by, piece_stays_by, last_stays_by, judged_stays_by, nothing_shows, unframed_begins_by}
+use Rattle.lpt_stream.specs.Pieces.{lookahead, begins_by, kind_by, len_by, stays_judged, piece_by, waits_by}
+use Rattle.lpt_stream.proofs.ByLemmas.{cut_stays_by, cut_waits, exact, packet_stays_by, piece_stays_by, judged_stays_by, nothing_shows, unframed_begins_by}
 
 -- nothing was read by what changes nothing of what is held
 pub goes-same : (b new : PacketBuffer) (a : Option (List ℕ))
@@ -120,7 +120,7 @@ asked-more old mid a b read more goes h size = inr (
 pub judged-more : (mid new : PacketBuffer) (b c : Option (List ℕ)) (more : List ℕ) (framed : Bool)
     → Adds mid new b c more
     → IsUnsettled mid
-    → framed ≡ is_framed (octets_held mid)
+    → framed ≡ stays_judged (cut_of mid) (octets_held mid)
     → framed ≡ true
     → begins_by (cut_of new) (is_in_step new) (take lookahead (octets_held new)) ≡ false
 judged-more mid new b c more framed added h is e =
@@ -286,13 +286,13 @@ pub other_settled : (p : PacketBuffer) (near : List ℕ) (k : PieceKind) (n : �
     → 0 < n
     → (waits_by (cut_of p) (is_in_step p) near ≡ false) ⊎ (is_ended p ≡ true)
     → k ≡ kind_by (cut_of p) (is_in_step p) near
-    → n ≡ size_in k near
+    → n ≡ len_by (cut_of p) (is_in_step p) near
     → n ≤ length near
     → IsInFront p (record { kind = k; len = n })
 other_settled p near k n is some least known kind size within =
     let fits = near_size (octets_held p) near n is within in
     let kind_is = kind ∙ ap (kind_by (cut_of p) (is_in_step p)) is in
-    let size_is = size ∙ ap (size_in k) is in
+    let size_is = size ∙ ap (len_by (cut_of p) (is_in_step p)) is in
     record {
       some = some;
       least = least;
@@ -303,18 +303,19 @@ other_settled p near k n is some least known kind size within =
       go : (more : List ℕ)
           → (is_ended p ≡ true → more ≡ [])
           → k ≡ kind_by (cut_of p) (is_in_step p) (take lookahead (octets_held p))
-          → n ≡ size_in k (take lookahead (octets_held p))
+          → n ≡ len_by (cut_of p) (is_in_step p) (take lookahead (octets_held p))
           → n ≤ length (octets_held p)
           → (waits_by (cut_of p) (is_in_step p) near ≡ false) ⊎ (is_ended p ≡ true)
           → piece_by (cut_of p) (is_in_step p) (octets_held p ++ more)
           ≡ found_piece p (record { kind = k; len = n })
       go more e kind_is size_is fits (inl h) =
-          piece_stays_by (cut_of p) (is_in_step p) (octets_held p) more k n
-          (sym (ap (waits_by (cut_of p) (is_in_step p)) is)
-          ∙ h) kind_is size_is fits
+          let known = sym (ap (waits_by (cut_of p) (is_in_step p)) is) ∙ h in
+          piece_stays_by (cut_of p) (is_in_step p) (octets_held p) more k n known kind_is
+          (exact (cut_of p) (is_in_step p) (take lookahead (octets_held p)) k n
+          (cut_waits (cut_of p) (is_in_step p) (take lookahead (octets_held p)) known) kind_is
+          size_is) fits
       go more e kind_is size_is fits (inr h) =
-          last_stays_by (cut_of p) (is_in_step p) (octets_held p) more k n (e h) kind_is size_is
-          fits
+          cut_stays_by (cut_of p) (is_in_step p) (octets_held p) more k n (e h) kind_is size_is
 
 -- where fewer are held than are looked at, those are all
 pub all_held : (b near : List ℕ) → near ≡ take lookahead b → length near < 131084 → near ≡ b

@@ -1,171 +1,18 @@
 -- What stands in front of a stream by each cut, whatever comes behind.
-use Rattle.std.proofs.Common.{◌≡◌, ◌⊎◌, ◌∙◌, ap, sym, refl, inl, inr, ℕ, ◌+◌, ◌≤◌, ◌<◌, ◌==◌, nat_le, Bool, true, false, not, ◌&&◌, ◌||◌, if◌then◌else◌, List, [], ◌∷◌, ◌++◌, length, take, arith, append-nil, length-append, take_all}
-use Rattle.std.proofs.lemmas.List.{take-append-le}
+use Rattle.std.proofs.Common.{◌≡◌, ◌∙◌, ap, sym, refl, ℕ, suc, ◌+◌, ◌≤◌, ◌<◌, ◌==◌, nat_le, nat_lt, Bool, true, false, ◌&&◌, ◌||◌, if◌then◌else◌, List, [], ◌++◌, length, take, arith, append-nil, length-take, take_all}
 use Rattle.lpt_packet.specs.Numbers.{word_at}
 use Rattle.lpt_packet.proofs.Readings.{eq_false}
 use Rattle.lpt_stream.specs.declared.cut.Cut.{Cut}
 use Rattle.lpt_stream.specs.declared.cut.Cut.TheVariants.{Sealed, Framed, Resumed}
 use Rattle.lpt_stream.specs.declared.piece_kind.PieceKind.{PieceKind}
 use Rattle.lpt_stream.specs.declared.piece_kind.PieceKind.TheVariants.{Whole, Damaged, Stray}
-use Rattle.lpt_stream.specs.Pieces.{lookahead, begins, begins_by, is_framed, is_version, kind_by, piece_by, piece_of, size_in, waits_by}
-use Rattle.lpt_stream.proofs.PieceLemmas.{framed_fits, judged_stays, of_kind, packet_stays, piece_stays, take_more, unframed_begins, whole}
-use Rattle.lpt_stream.proofs.StreamLemmas.{word_at-front}
-
--- ---- lengths alone
-
--- a kind, by whether a frame begins
-abbrev kind_framed : (begun in_step : Bool) → PieceKind
-kind_framed t s = if t then Whole else if s && false then Damaged else Stray
-
-version_kept : (b more : List ℕ) → (length b == 0) ≡ false → is_version (b ++ more) ≡ is_version b
-version_kept [] more h = absurd cc
-version_kept (x ∷ b) more h = refl
-
-framed_some : (b : List ℕ) → is_framed b ≡ true → (length b == 0) ≡ false
-framed_some [] h = absurd cc
-framed_some (x ∷ b) h = eq_false (length (x ∷ b)) 0 (λ e. omega (arith, e))
-
-framed_kept : (b more : List ℕ) → is_framed b ≡ true → is_framed (b ++ more) ≡ true
-framed_kept b more h =
-    let fits = framed_fits b h in
-    ap (λ w. nat_le (7 + w) (length (b ++ more))) (word_at-front b more (omega (arith, fits)))
-    ∙ enough (7 + word_at b 4) (length b) (length (b ++ more)) fits
-    (let size = length-append b more in omega (arith, size)) where
-      enough : (a n m : ℕ) → a ≤ n → n ≤ m → nat_le a m ≡ true
-      enough a n m h k = grind (arith, h, k)
-
--- a frame that has come stays, and so does what is none
-begun_kept : (s : Bool) (b more : List ℕ) → is_framed b ≡ true
-    → begins_by Framed s (b ++ more) ≡ begins_by Framed s b
-begun_kept s b more h =
-    (λ i. s && (version_kept b more (framed_some b h) i && framed_kept b more h i))
-    ∙ sym (ap (λ f. s && (is_version b && f)) h)
-
-framed_in : (s v f : Bool) → (s && (v && f)) ≡ true → f ≡ true
-framed_in true true true h = refl
-framed_in true true false h = absurd cc
-framed_in true false f h = absurd cc
-framed_in false v f h = absurd cc
-
-none_in : (s v : Bool) → (s && (v && false)) ≡ false
-none_in true true = refl
-none_in true false = refl
-none_in false v = refl
-
-frame_stays : (s : Bool) (b more : List ℕ) (n : ℕ)
-    → begins_by Framed s (take lookahead b) ≡ true
-    → n ≡ 7 + word_at (take lookahead b) 4
-    → n ≤ length b
-    → piece_by Framed s (b ++ more) ≡ whole (take n b)
-unfolding piece_by
-frame_stays s b more n is size within =
-    let near = take lookahead b in
-    let m = take_more lookahead b more in
-    let framed = framed_in s (is_version near) (is_framed near) is in
-    let fits = framed_fits near framed in
-    let same : begins_by Framed s (take lookahead (b ++ more)) ≡ true =
-    ap (begins_by Framed s) m.1 ∙ begun_kept s near m.0 framed ∙ is in
-    let word : word_at (take lookahead (b ++ more)) 4 ≡ word_at near 4 =
-    ap (λ x. word_at x 4) m.1 ∙ word_at-front near m.0 (omega (arith, fits)) in
-    ap (λ t. piece_of (kind_framed t s) (take lookahead (b ++ more)) (b ++ more)) same
-    ∙ ap (λ w. whole (take (7 + w) (b ++ more))) word
-    ∙ ap (λ k. whole (take k (b ++ more))) (sym size)
-    ∙ ap whole (take-append-le n b more within)
-
--- what is in front, and its size
-record IsKeptBy (s : Bool) (b more : List ℕ) : Type 0 where
-  kind : kind_by Framed s (b ++ more) ≡ kind_by Framed s b
-  size : size_in (kind_by Framed s b) (b ++ more) ≡ size_in (kind_by Framed s b) b
-
-size_of : (k : PieceKind) (b c : List ℕ) → word_at b 4 ≡ word_at c 4 → size_in k b ≡ size_in k c
-size_of Whole b c h = ap (λ w. 7 + w) h
-size_of Damaged b c h = ap (λ w. 7 + w) h
-size_of Stray b c h = refl
-
-stray_framed : (s : Bool) → kind_framed false s ≡ Stray
-stray_framed true = refl
-stray_framed false = refl
-
--- where no frame begins, with more behind or without, an octet stands there
-both_stray : (s : Bool) (b more : List ℕ)
-    → begins_by Framed s (b ++ more) ≡ false
-    → begins_by Framed s b ≡ false
-    → IsKeptBy s b more
-both_stray s b more h k =
-    let stray : kind_by Framed s b ≡ Stray = ap (λ t. kind_framed t s) k ∙ stray_framed s in
-    record {
-      kind = ap (λ t. kind_framed t s) h ∙ stray_framed s ∙ sym stray;
-      size = ap (λ k. size_in k (b ++ more)) stray ∙ sym (ap (λ k. size_in k b) stray);
-    }
-
-waits_apart : (none s v f : Bool) → (none || (s && (v && not f))) ≡ false
-    → (none ≡ false) × ((f ≡ true) ⊎ ((s && v) ≡ false))
-waits_apart true s v f h = absurd cc
-waits_apart false true true true h = (refl, inl refl)
-waits_apart false true true false h = absurd cc
-waits_apart false true false f h = (refl, inr refl)
-waits_apart false false v f h = (refl, inr refl)
-
-unstarted : (s v f : Bool) → (s && v) ≡ false → (s && (v && f)) ≡ false
-unstarted true true f h = absurd cc
-unstarted true false f h = refl
-unstarted false v f h = refl
-
-front_kept : (s : Bool) (b more : List ℕ) → waits_by Framed s b ≡ false → IsKeptBy s b more
-front_kept s b more h =
-    let parts = waits_apart (length b == 0) s (is_version b) (is_framed b) h in
-    elim parts.1 [
-      | inl framed ↦ record {
-        kind = ap (λ t. kind_framed t s) (begun_kept s b more framed);
-        size = size_of (kind_by Framed s b) (b ++ more) b
-            (let fits = framed_fits b framed in word_at-front b more (omega (arith, fits)));
-      }
-      | inr off ↦ both_stray s b more
-          (unstarted s (is_version (b ++ more)) (is_framed (b ++ more))
-          (ap (λ v. s && v) (version_kept b more parts.0) ∙ off))
-          (unstarted s (is_version b) (is_framed b) off)
-    ]
-
-octets_stay : (s : Bool) (b more : List ℕ) (k : PieceKind) (n : ℕ)
-    → waits_by Framed s (take lookahead b) ≡ false
-    → k ≡ kind_by Framed s (take lookahead b)
-    → n ≡ size_in k (take lookahead b)
-    → n ≤ length b
-    → piece_by Framed s (b ++ more) ≡ of_kind k (take n b)
-unfolding piece_by
-octets_stay s b more k n known kind size within =
-    let near = take lookahead b in
-    let m = take_more lookahead b more in
-    let stays = front_kept s near m.0 known in
-    ap (λ x. piece_of (kind_by Framed s x) x (b ++ more)) m.1
-    ∙ ap (λ k. piece_of k (near ++ m.0) (b ++ more)) stays.kind
-    ∙ ap (λ n. of_kind (kind_by Framed s near) (take n (b ++ more))) stays.size
-    ∙ ap (λ k. of_kind k (take (size_in k near) (b ++ more))) (sym kind)
-    ∙ ap (λ n. of_kind k (take n (b ++ more))) (sym size)
-    ∙ ap (of_kind k) (take-append-le n b more within)
-
-judged_frame : (s : Bool) (b more : List ℕ)
-    → is_framed b ≡ true
-    → begins_by Framed s b ≡ false
-    → length b < lookahead
-    → begins_by Framed s (take lookahead (b ++ more)) ≡ false
-judged_frame s b more framed none few =
-    let m = take_more lookahead b more in
-    let near : take lookahead b ≡ b = take_all lookahead b (omega (arith, few)) in
-    ap (begins_by Framed s) (m.1 ∙ ap (λ x. x ++ m.0) near)
-    ∙ begun_kept s b m.0 framed
-    ∙ none
-
--- ---- each cut
-
--- in step as by lengths, elsewhere as by checksums
-resumed_true : (b : List ℕ) → piece_by Resumed true b ≡ piece_by Framed true b
-unfolding piece_by
-resumed_true b = refl
-
-resumed_false : (b : List ℕ) → piece_by Resumed false b ≡ piece_by Sealed false b
-unfolding piece_by
-resumed_false b = refl
+use Rattle.lpt_stream.specs.Pieces.{lookahead, begins, begins_by, behind, ends_in_checksum, frame, follows, is_all, is_awaited, is_cut_off, is_framed, is_short, is_version, kind_by, len_by, most_damaged, most_in_row, piece_by, piece_of, reach_waits, reaches, size_in, stays_judged, waits_by}
+use Rattle.lpt_stream.specs.Streams.{IsUnfinished}
+use Rattle.lpt_stream.proofs.PieceLemmas.{judged_stays, of_kind, packet_stays, piece_stays, unframed_begins, whole}
+use Rattle.lpt_stream.proofs.BelievedLemmas.{awaited_few, awaited_unfit, awaited_unframed, framed_unawaited, some_there, unframed_fit}
+use Rattle.lpt_stream.proofs.FollowLemmas.{not_right, nothing_follows, right}
+use Rattle.lpt_stream.proofs.KeptLemmas.{begun_kept, framed_in, judged_frame, kept_stays, kind_framed, none_in, octets_stay, stray_framed}
+use Rattle.lpt_stream.proofs.ResumeLemmas.{astray_begun, begun_there, first_framed, none_astray, resumed_front, step_begun, uncut, unfit_begins, unfit_stray}
 
 -- a packet in front stays in front
 pub packet_stays_by : (c : Cut) (s : Bool) (b more : List ℕ) (n : ℕ)
@@ -175,11 +22,16 @@ pub packet_stays_by : (c : Cut) (s : Bool) (b more : List ℕ) (n : ℕ)
     → n ≤ length b
     → piece_by c s (b ++ more) ≡ whole (take n b)
 packet_stays_by Sealed s b more n is size near within = packet_stays s b more n is size near within
-packet_stays_by Framed s b more n is size near within = frame_stays s b more n is size within
-packet_stays_by Resumed true b more n is size near within =
-    resumed_true (b ++ more) ∙ frame_stays true b more n is size within
-packet_stays_by Resumed false b more n is size near within =
-    resumed_false (b ++ more) ∙ packet_stays false b more n is size near within
+packet_stays_by Framed s b more n is size near within =
+    let framed = framed_in s (is_version (take lookahead b)) (is_framed (take lookahead b)) is in
+    begun_there Framed s b more n (λ m. begun_kept s (take lookahead b) m framed ∙ is)
+    framed size within
+packet_stays_by (Resumed l) true b more n is size near within =
+    begun_there (Resumed l) true b more n (λ m. step_begun l (take lookahead b) m is)
+    (first_framed l true (take lookahead b) is) size within
+packet_stays_by (Resumed l) false b more n is size near within =
+    begun_there (Resumed l) false b more n (λ m. astray_begun l (take lookahead b) m is)
+    (first_framed l false (take lookahead b) is) size within
 
 -- a piece that doesn't wait stays in front
 pub piece_stays_by : (c : Cut) (s : Bool) (b more : List ℕ) (k : PieceKind) (n : ℕ)
@@ -192,10 +44,8 @@ piece_stays_by Sealed s b more k n known kind size within =
     piece_stays s b more k n known kind size within
 piece_stays_by Framed s b more k n known kind size within =
     octets_stay s b more k n known kind size within
-piece_stays_by Resumed true b more k n known kind size within =
-    resumed_true (b ++ more) ∙ octets_stay true b more k n known kind size within
-piece_stays_by Resumed false b more k n known kind size within =
-    resumed_false (b ++ more) ∙ piece_stays false b more k n known kind size within
+piece_stays_by (Resumed l) s b more k n known kind size within =
+    kept_stays (Resumed l) s b more k n (λ m e. resumed_front l s b more m known e) kind size within
 
 -- so does any where nothing more comes
 pub last_stays_by : (c : Cut) (s : Bool) (b more : List ℕ) (k : PieceKind) (n : ℕ)
@@ -217,32 +67,241 @@ pub unframed_begins_by : (c : Cut) (s : Bool) (b : List ℕ) → is_framed b ≡
 unframed_begins_by Sealed s b h = unframed_begins s b h
 unframed_begins_by Framed s b h =
     ap (λ f. s && (is_version b && f)) h ∙ none_in s (is_version b)
-unframed_begins_by Resumed true b h =
-    ap (λ f. is_version b && f) h ∙ none_in true (is_version b)
-unframed_begins_by Resumed false b h = unframed_begins false b h
+unframed_begins_by (Resumed l) true b h =
+    ap (λ t. is_short l b && t) (unframed_begins true b h) ∙ nothing (is_short l b) where
+      nothing : (s : Bool) → (s && false) ≡ false
+      nothing true = refl
+      nothing false = refl
+unframed_begins_by (Resumed l) false b h =
+    ap (λ t. t && follows false l most_in_row (suc l) b) (unframed_begins false b h)
 
 -- no packet begins where none did, with more behind the header's octets
 pub judged_stays_by : (c : Cut) (s : Bool) (b more : List ℕ)
-    → is_framed b ≡ true
+    → stays_judged c b ≡ true
     → begins_by c s b ≡ false
     → length b < lookahead
     → begins_by c s (take lookahead (b ++ more)) ≡ false
 judged_stays_by Sealed s b more framed none few = judged_stays s b more framed none few
 judged_stays_by Framed s b more framed none few = judged_frame s b more framed none few
-judged_stays_by Resumed true b more framed none few = judged_frame true b more framed none few
-judged_stays_by Resumed false b more framed none few =
-    judged_stays false b more framed none few
+judged_stays_by (Resumed l) s b more framed none few = absurd cc
 
 -- out of step none begins where none does by checksums
 pub none_out : (c : Cut) (b : List ℕ) → begins false b ≡ false → begins_by c false b ≡ false
 none_out Sealed b h = h
 none_out Framed b h = refl
-none_out Resumed b h = h
+none_out (Resumed l) b h = ap (λ t. t && follows false l most_in_row (suc l) b) h
 
 -- nothing shows what comes
 pub nothing_shows : (c : Cut) (s : Bool) → waits_by c s [] ≡ true
 nothing_shows Sealed true = refl
 nothing_shows Sealed false = refl
 nothing_shows Framed s = refl
-nothing_shows Resumed true = refl
-nothing_shows Resumed false = refl
+nothing_shows (Resumed l) true =
+    ap (λ t. if t then reach_waits l most_damaged [] else true) (none (is_short l [])) where
+      none : (s : Bool) → (s && false) ≡ false
+      none true = refl
+      none false = refl
+nothing_shows (Resumed l) false =
+    nothing_follows l 8192 (suc l) (eq_false (suc l) 0 (λ e. omega (arith, e)))
+
+-- where not all of its octets have come one octet stands, or what is cut off
+abbrev cut_or_stray : Bool → PieceKind
+cut_or_stray t = if t then Damaged else Stray
+
+pub unframed_kind : (c : Cut) (s : Bool) (b : List ℕ) → is_framed b ≡ false
+    → kind_by c s b ≡ (if is_cut_off c s b then Damaged else Stray)
+unframed_kind Sealed true b h =
+    λ i. if unframed_begins true b h i then Whole else
+    if (h i && ((length (behind b) == 0) || begins false (behind b))) then Damaged else Stray
+unframed_kind Sealed false b h =
+    ap (λ (t : Bool). if t then Whole else Stray) (unframed_begins false b h)
+unframed_kind Framed s b h =
+    ap (λ t. kind_framed t s) (unframed_begins_by Framed s b h) ∙ stray_framed s
+unframed_kind (Resumed l) true b h =
+    let fit = unframed_fit l b h in
+    (λ i. if unfit_begins l b fit i then Whole else
+    if (is_cut_off (Resumed l) true b
+    || (fit i && reaches (is_all b) l most_damaged (behind b))) then Damaged else Stray)
+    ∙ ap cut_or_stray (alone (is_cut_off (Resumed l) true b))
+  where
+    alone : (t : Bool) → (t || false) ≡ t
+    alone true = refl
+    alone false = refl
+unframed_kind (Resumed l) false b h = none_astray l b (unframed_begins false b h)
+
+unframed : (n w : ℕ) → n < (if nat_lt n 6 then 6 else 7 + w) → nat_le (7 + w) n ≡ false
+unframed n w h = grind (arith, h)
+
+pub unfinished : (b : List ℕ) → IsUnfinished b → is_framed b ≡ false
+unfinished b h = unframed (length b) (word_at b 4) h
+
+-- what has come whole isn't cut off
+pub framed_uncut : (c : Cut) (s : Bool) (b : List ℕ) → is_framed b ≡ true
+    → is_cut_off c s b ≡ false
+framed_uncut Sealed s b h = refl
+framed_uncut Framed s b h = refl
+framed_uncut (Resumed l) true b h = uncut l b (framed_unawaited l b h)
+framed_uncut (Resumed l) false b h = refl
+
+-- what is cut off is awaited
+cut_parts : (p q : Bool) → (p && q) ≡ true → (p ≡ true) × (q ≡ true)
+cut_parts true q h = (refl, h)
+cut_parts false q h = absurd cc
+
+pub cut_waits : (c : Cut) (s : Bool) (b : List ℕ) → waits_by c s b ≡ false
+    → is_cut_off c s b ≡ false
+cut_waits Sealed s b h = refl
+cut_waits Framed s b h = refl
+cut_waits (Resumed l) false b h = refl
+cut_waits (Resumed l) true b h = go (is_cut_off (Resumed l) true b) refl where
+  go : (t : Bool) → is_cut_off (Resumed l) true b ≡ t → t ≡ false
+  go false e = refl
+  go true e =
+      let is = cut_parts (is_all b) (is_awaited l b) e in
+      let waits : waits_by (Resumed l) true b ≡ true =
+      λ i. is.0 i && (ap (λ t. if t then reach_waits l most_damaged (behind b) else is_awaited l b)
+      (awaited_unfit l b is.1) ∙ is.1) i in
+      absurd cc
+
+pub cut_awaited : (l : ℕ) (s : Bool) (b : List ℕ) → is_cut_off (Resumed l) s b ≡ true
+    → is_awaited l b ≡ true
+cut_awaited l s b h =
+    (cut_parts (is_all b) (is_awaited l b) (cut_parts s (is_all b && is_awaited l b) h).1).1
+
+-- it is shorter than its header says, and all that there is
+pub cut_short : (l : ℕ) (s : Bool) (b : List ℕ) → is_cut_off (Resumed l) s b ≡ true
+    → (is_framed b ≡ false) × (length b < lookahead) × (length b < 7 + word_at b 4)
+cut_short l s b h =
+    let is = cut_parts (is_all b) (is_awaited l b) (cut_parts s (is_all b && is_awaited l b) h).1 in
+    let none = awaited_unframed l b is.1 in
+    (none, is_lt (length b) lookahead is.0, not_le (7 + word_at b 4) (length b) none)
+  where
+    is_lt : (n m : ℕ) → nat_lt n m ≡ true → n < m
+    is_lt n m h = grind (arith, h)
+
+    not_le : (n m : ℕ) → nat_le n m ≡ false → m < n
+    not_le n m h = grind (arith, h)
+
+-- how many octets stand in front, where none is cut off
+pub exact : (c : Cut) (s : Bool) (b : List ℕ) (k : PieceKind) (n : ℕ)
+    → is_cut_off c s b ≡ false
+    → k ≡ kind_by c s b
+    → n ≡ len_by c s b
+    → n ≡ size_in k b
+exact c s b k n none kind size =
+    size ∙ ap (λ t. if t then length b else size_in (kind_by c s b) b) none
+    ∙ ap (λ k. size_in k b) (sym kind)
+
+-- where one is, all of them do
+cut_all : (c : Cut) (s : Bool) (b : List ℕ) (k : PieceKind) (n : ℕ)
+    → is_cut_off c s (take lookahead b) ≡ true
+    → k ≡ kind_by c s (take lookahead b)
+    → n ≡ length (take lookahead b)
+    → of_kind k (take (size_in k (take lookahead b)) b) ≡ of_kind k (take n b)
+cut_all Sealed s b k n h kind size = absurd cc
+cut_all Framed s b k n h kind size = absurd cc
+cut_all (Resumed l) s b k n h kind size =
+    let near = take lookahead b in
+    let is = cut_short l s near h in
+    let near_len = length-take lookahead b in
+    let few = is.1 in
+    let short = is.2 in
+    let damaged : k ≡ Damaged =
+    kind ∙ unframed_kind (Resumed l) s near is.0 ∙ ap cut_or_stray h in
+    let sized : size_in k near ≡ 7 + word_at near 4 = ap (λ k. size_in k near) damaged in
+    ap (of_kind k)
+    (take_all (size_in k near) b (omega (arith, sized, near_len, few, short))
+    ∙ sym (take_all n b (omega (arith, size, near_len, few))))
+
+-- so does one that the end cuts off
+pub cut_stays_by : (c : Cut) (s : Bool) (b more : List ℕ) (k : PieceKind) (n : ℕ)
+    → more ≡ []
+    → k ≡ kind_by c s (take lookahead b)
+    → n ≡ len_by c s (take lookahead b)
+    → piece_by c s (b ++ more) ≡ of_kind k (take n b)
+unfolding piece_by
+cut_stays_by c s b more k n none kind size =
+    ap (λ m. piece_by c s (b ++ m)) none
+    ∙ ap (piece_by c s) (append-nil b)
+    ∙ ap (λ k. piece_of k (take lookahead b) b) (sym kind)
+    ∙ go (is_cut_off c s (take lookahead b)) refl
+  where
+    go : (t : Bool) → is_cut_off c s (take lookahead b) ≡ t
+        → of_kind k (take (size_in k (take lookahead b)) b) ≡ of_kind k (take n b)
+    go false e =
+        ap (λ n. of_kind k (take n b)) (sym (exact c s (take lookahead b) k n e kind size))
+    go true e =
+        cut_all c s b k n e kind
+        (size ∙ ap (λ t. if t then length (take lookahead b)
+        else size_in (kind_by c s (take lookahead b)) (take lookahead b)) e)
+
+-- ---- no longer than the longest
+
+none_behind : (l : ℕ) (b : List ℕ)
+    → follows false l most_in_row (suc l) b ≡ false
+    → follows true l most_in_row (suc l) b ≡ false
+    → kind_by (Resumed l) false b ≡ Stray
+none_behind l b h k = go (begins false b) where
+  go : (t : Bool) → (if t && follows false l most_in_row (suc l) b then Whole else
+      if t && follows true l most_in_row (suc l) b then Whole else Stray) ≡ Stray
+  go true = λ i. if h i then Whole else if k i then Whole else Stray
+  go false = refl
+
+-- of a length that isn't believed one octet stands
+long_stray : (l : ℕ) (s : Bool) (b : List ℕ) → is_short l b ≡ false
+    → is_cut_off (Resumed l) s b ≡ false
+    → kind_by (Resumed l) s b ≡ Stray
+long_stray l true b h k = unfit_stray l b (ap (λ t. t && is_framed b) h) k
+long_stray l false b h k = go (is_framed b) refl where
+  go : (t : Bool) → is_framed b ≡ t → kind_by (Resumed l) false b ≡ Stray
+  go false e = none_astray l b (unframed_begins false b e)
+  go true e =
+      let left = eq_false (suc l) 0 (λ e. omega (arith, e)) in
+      let wrong : right l b ≡ false =
+      ap (λ t. (t && is_framed b) && ends_in_checksum (frame b)) h in
+      none_behind l b
+      (not_right false l 8192 (suc l) b left refl wrong)
+      (not_right true l 8192 (suc l) b left (some_there b e) wrong)
+
+short_size : (l : ℕ) (k : PieceKind) (b : List ℕ) → 7 + word_at b 4 ≤ l → size_in k b ≤ l
+short_size l Whole b h = h
+short_size l Damaged b h = h
+short_size l Stray b h = omega (arith, h)
+
+believed : (l w : ℕ) → nat_le (7 + w) l ≡ true → 7 + w ≤ l
+believed l w h = grind (arith, h)
+
+-- a piece isn't longer than the longest packet
+pub piece_short : (l : ℕ) (s : Bool) (b : List ℕ) → 5 < l
+    → length (piece_by (Resumed l) s b).octets ≤ l
+unfolding piece_by
+piece_short l s b some =
+    go (is_cut_off (Resumed l) s (take lookahead b)) (is_short l (take lookahead b)) refl refl where
+      near : List ℕ
+      near = take lookahead b
+
+      sized : size_in (kind_by (Resumed l) s near) near ≤ l
+          → length (take (size_in (kind_by (Resumed l) s near) near) b) ≤ l
+      sized within =
+          let all = length-take (size_in (kind_by (Resumed l) s near) near) b in
+          omega (arith, within, all)
+
+      few : is_cut_off (Resumed l) s near ≡ true → is_short l near ≡ false → length b ≤ l
+      few e long =
+          let is = cut_short l s near e in
+          let size = length-take lookahead b in
+          let none = awaited_few l near (cut_awaited l s near e) long in
+          let small = is.1 in
+          omega (arith, size, none, small, some)
+
+      go : (t u : Bool) → is_cut_off (Resumed l) s near ≡ t → is_short l near ≡ u
+          → length (take (size_in (kind_by (Resumed l) s near) near) b) ≤ l
+      go t true e u =
+          sized (short_size l (kind_by (Resumed l) s near) near (believed l (word_at near 4) u))
+      go false false e u =
+          let one = ap (λ k. size_in k near) (long_stray l s near u e) in
+          sized (omega (arith, one, some))
+      go true false e u =
+          let all = length-take (size_in (kind_by (Resumed l) s near) near) b in
+          let small = few e u in
+          omega (arith, all, small)

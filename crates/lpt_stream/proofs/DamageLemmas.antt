@@ -17,7 +17,7 @@ take_over (x ∷ xs) ys n =
     let e : length (x ∷ xs) + n ≡ suc (length xs + n) = omega arith in
     ap (λ k. take k (x ∷ (xs ++ ys))) e ∙ ap (λ l. x ∷ l) (take_over xs ys n)
 
-take_past : (xs ys : List ℕ) (n : ℕ)
+pub take_past : (xs ys : List ℕ) (n : ℕ)
     → length xs ≤ n
     → take n (xs ++ ys) ≡ xs ++ take (n - length xs) ys
 take_past xs ys n h =
@@ -27,23 +27,23 @@ take_past xs ys n h =
 -- ---- octets as many as their header says, with others behind them
 
 -- the length that the header says
-size : (b more : List ℕ) → IsFramed b → 7 + word_at (b ++ more) 4 ≡ length b
+pub size : (b more : List ℕ) → IsFramed b → 7 + word_at (b ++ more) 4 ≡ length b
 size b more h = ap (λ w. 7 + w) (word_at-front b more h.headed) ∙ sym h.whole
 
-front : (b more : List ℕ) → IsFramed b → frame (b ++ more) ≡ b
+pub front : (b more : List ℕ) → IsFramed b → frame (b ++ more) ≡ b
 front b more h = ap (λ n. take n (b ++ more)) (size b more h) ∙ take-append_seam b more
 
-rest_is : (b more : List ℕ) → IsFramed b → behind (b ++ more) ≡ more
+pub rest_is : (b more : List ℕ) → IsFramed b → behind (b ++ more) ≡ more
 rest_is b more h = ap (λ n. drop n (b ++ more)) (size b more h) ∙ drop-append_seam b more
 
-framed : (b more : List ℕ) → IsFramed b → is_framed (b ++ more) ≡ true
+pub framed : (b more : List ℕ) → IsFramed b → is_framed (b ++ more) ≡ true
 framed b more h =
     let all = length-append b more in
     let same = size b more h in
     grind (arith, all, same)
 
 -- a packet begins with one, whatever comes behind
-packet_begins : (p more : List ℕ) (f : Fields) → IsPacket p f → begins false (p ++ more) ≡ true
+pub packet_begins : (p more : List ℕ) (f : Fields) → IsPacket p f → begins false (p ++ more) ≡ true
 packet_begins p more f h =
     ap (is_found false) (front p more (framed_packet p f h))
     ∙ ap (is_taken false (ends_in_checksum p)) (again p (APacket f) h)
@@ -58,7 +58,7 @@ or_right true q h = refl
 or_right false q h = h
 
 -- as far as it is looked at, nothing stands there or a packet
-followed : (n : ℕ) (rest : List ℕ)
+pub followed : (n : ℕ) (rest : List ℕ)
     → 65542 ≤ n
     → IsEndOrPacket rest
     → ((length (take n rest) == 0) || begins false (take n rest)) ≡ true
@@ -125,7 +125,7 @@ damaged_piece b rest h next =
     ∙ ap (λ n. damaged (take n (b ++ rest))) (size b more h.framed)
     ∙ ap damaged (take-append_seam b rest)
 
-some : (b rest : List ℕ) → IsFramed b → 0 < length (b ++ rest)
+pub some : (b rest : List ℕ) → IsFramed b → 0 < length (b ++ rest)
 some b rest h =
     let head = h.headed in
     let all = length-append b rest in

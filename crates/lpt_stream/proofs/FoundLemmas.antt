@@ -7,7 +7,7 @@ use Rattle.lpt_packet.proofs.Codec.{length-spelling}
 use Rattle.lpt_packet.proofs.Found.{again}
 use Rattle.lpt_packet.proofs.Readings.{chain, eq_false, eq_true, lt_false, verdict_is}
 use Rattle.lpt_stream.specs.Pieces.{Piece, lookahead, ends_in_checksum, frame, is_taken, is_found, begins, piece_at, Leads, Finds, packets_of}
-use Rattle.lpt_stream.specs.Streams.{AreInStep, IsFramed, IsInStep, IsSound, IsStream, all_octets}
+use Rattle.lpt_stream.specs.Streams.{AreInStep, IsFramed, IsInStep, IsSound, all_octets}
 use Rattle.lpt_stream.proofs.PieceLemmas.{packet_stays, whole}
 use Rattle.lpt_stream.proofs.StreamLemmas.{framed_packet, framed_idle}
 
@@ -138,11 +138,3 @@ all_found bs h =
     let nothing : Finds [] [] = ([], (true, (refl, refl)), refl) in
     subst (λ x. Finds x bs) (append-nil (all_octets bs))
     (subst (λ x. Finds (all_octets bs ++ []) x) (append-nil bs) (found_behind bs [] [] h nothing))
-
-packets_in_step : (bs : List (List ℕ)) → IsStream bs → AreInStep bs
-packets_in_step [] h = h
-packets_in_step (b ∷ bs) h = (inl (h.0), packets_in_step bs h.1)
-
--- packets one behind the other are such
-pub stream_found : (bs : List (List ℕ)) → IsStream bs → Finds (all_octets bs) bs
-stream_found bs h = all_found bs (packets_in_step bs h)

@@ -56,7 +56,7 @@ take_more (suc n) (x ∷ xs) ys =
     let rest = take_more n xs ys in
     (rest.0, ap (λ l. x ∷ l) rest.1)
 
-frame-more : (b more : List ℕ) → 7 + word_at b 4 ≤ length b → frame (b ++ more) ≡ frame b
+pub frame-more : (b more : List ℕ) → 7 + word_at b 4 ≤ length b → frame (b ++ more) ≡ frame b
 frame-more b more h =
     ap (λ n. take (7 + n) (b ++ more)) (word_at-front b more (omega (arith, h)))
     ∙ take-append-le (7 + word_at b 4) b more h
@@ -104,7 +104,7 @@ both : (p q : Bool) → p ≡ true → q ≡ true → (p && q) ≡ true
 both true q h k = k
 both false q h k = absurd cc
 
-or_right : (p q : Bool) → q ≡ true → (p || q) ≡ true
+pub or_right : (p q : Bool) → q ≡ true → (p || q) ≡ true
 or_right true q h = refl
 or_right false q h = h
 
@@ -129,7 +129,7 @@ word_stays b more k h =
     let low = get_or_append_left b more 0 (k + 1) (omega (arith, h)) in
     λ i. 256 * high i + low i
 
-longer : (b more : List ℕ) → length b ≤ length (b ++ more)
+pub longer : (b more : List ℕ) → length b ≤ length (b ++ more)
 longer b more = let size = length-append b more in omega (arith, size)
 
 first_kept : (b more : List ℕ) → first_fits (b ++ more) ≡ true → first_fits b ≡ true
@@ -155,7 +155,7 @@ size_kept b more h =
     (λ e. ap (λ w. not (w == 0)) (word_stays b more 4 e)) h
 
 -- a packet may begin with octets with which it may, and others behind them
-may_kept : (b more : List ℕ) → may_begin (b ++ more) ≡ true → may_begin b ≡ true
+pub may_kept : (b more : List ℕ) → may_begin (b ++ more) ≡ true → may_begin b ≡ true
 may_kept b more h =
     let front = and_left (first_fits (b ++ more) && flags_fit (b ++ more))
     (size_fits (b ++ more)) h in
@@ -177,7 +177,7 @@ some_left : (n w : ℕ) → n ≡ 7 + w → 8 ≤ n → w ≢ 0
 some_left n w h k e = omega (arith, h, k, e)
 
 -- and it may with those with which it does
-begins_may : (b : List ℕ) → begins false b ≡ true → may_begin b ≡ true
+pub begins_may : (b : List ℕ) → begins false b ≡ true → may_begin b ≡ true
 begins_may b h =
     let x = frame b in
     let rest = drop (7 + word_at b 4) b in
@@ -231,7 +231,7 @@ pub framed_fits : (b : List ℕ) → is_framed b ≡ true → 7 + word_at b 4 �
 framed_fits b h = grind (arith, h)
 
 -- where nothing is open, what comes changes nothing
-closed : (b more : List ℕ) → is_open b ≡ false → begins false (b ++ more) ≡ begins false b
+pub closed : (b more : List ℕ) → is_open b ≡ false → begins false (b ++ more) ≡ begins false b
 closed b more h = go (is_framed b) refl where
   none : (t : Bool) → is_framed b ≡ false → begins false (b ++ more) ≡ t → t ≡ false
   none false e k = refl

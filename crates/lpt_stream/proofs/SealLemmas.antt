@@ -60,7 +60,7 @@ sealed_by : (c : Cut) (s : Bool) (b : List ℕ)
     → IsSealedBy c (piece_by c s b).kind (piece_by c s b).octets
 sealed_by Sealed s b h = front_sealed s b h
 sealed_by Framed s b h = tt
-sealed_by Resumed s b h = tt
+sealed_by (Resumed l) s b h = tt
 
 -- nor has the piece that was found, where checksums are looked at
 pub found_sealed : (b : PacketBuffer) (f : Found)

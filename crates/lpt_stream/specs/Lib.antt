@@ -1,5 +1,6 @@
 pub mod Buffers
 pub mod Fronts
+pub mod Lengths
 pub mod Pieces
 pub mod Reads
 pub mod Strays

@@ -1,5 +1,5 @@
 -- How a stream is cut into pieces, if not all of its octets are packets.
-use Rattle.std.specs.Prelude.{◌≡◌, ◌≢◌, ℕ, ◌+◌, ◌-◌, ◌^◌, ◌<◌, ◌==◌, ◌&&◌, ◌||◌, not, ◌/◌, ◌%◌, min, nat_lt, nat_le, Bool, true, false, if◌then◌else◌, List, [], ◌∷◌, length, take, drop, slice_index, Result, Ok, Err, ⊤}
+use Rattle.std.specs.Prelude.{◌≡◌, ◌≢◌, ℕ, zero, suc, ◌+◌, ◌-◌, ◌^◌, ◌<◌, ◌==◌, ◌&&◌, ◌||◌, not, ◌/◌, ◌%◌, min, nat_lt, nat_le, Bool, true, false, if◌then◌else◌, List, [], ◌∷◌, length, take, drop, slice_index, Result, Ok, Err, ⊤}
 use Rattle.lpt_packet.specs.declared.fault.PacketFault.{PacketFault}
 use Rattle.lpt_packet.specs.declared.fault.PacketFault.TheVariants.{Short, Version, Length, Segmented, NoSecondary, Checksum}
 use Rattle.lpt_packet.specs.Checksums.{checksum}
@@ -72,23 +72,89 @@ is_passed b = is_framed b && ((length (behind b) == 0) || begins false (behind b
 abbrev pub is_version : List ℕ → Bool
 is_version b = slice_index b 0 / 32 == 0
 
+-- ---- no longer than the longest
+
+-- whether a header says no more octets than a packet of the link has at most
+abbrev pub is_short : (longest : ℕ) → List ℕ → Bool
+is_short l b = nat_le (7 + word_at b 4) l
+
+-- whether as many octets have come as the header says, if that is believed
+abbrev pub fits : (longest : ℕ) → List ℕ → Bool
+fits l b = is_short l b && is_framed b
+
+-- whether more are awaited
+abbrev pub is_awaited : (longest : ℕ) → List ℕ → Bool
+is_awaited l b = not (is_framed b) && (nat_lt (length b) 6 || is_short l b)
+
+-- so many packets with a checksum have more octets than the longest
+abbrev pub most_in_row : ℕ
+most_in_row = 8193
+
+-- whether packets with right checksums follow one another from here, for so many octets; if the
+-- stream's end counts, or up to it; fewer than n packets
+unfoldable pub follows : (end_counts : Bool) → (longest n left : ℕ) → List ℕ → Bool
+follows e l zero left b = false
+follows e l (suc n) left b =
+    (left == 0)
+    || ((e && (length b == 0))
+    || ((fits l b && ends_in_checksum (frame b))
+    && follows e l n (left - (7 + word_at b 4)) (behind b)))
+
+-- ---- what begins
+
 -- whether a packet begins at the front, by this cut: one with a right checksum; or in step as many
--- octets as a header of version 0 says
+-- octets as a header of version 0 says. Behind octets astray it counts if packets follow for more
+-- octets than the longest packet has: not all of them are inside of one
 abbrev pub begins_by : Cut → (in_step : Bool) → List ℕ → Bool
 begins_by Sealed s b = begins s b
 begins_by Framed s b = s && (is_version b && is_framed b)
-begins_by Resumed true b = is_version b && is_framed b
-begins_by Resumed false b = begins false b
+begins_by (Resumed l) true b = is_short l b && begins true b
+begins_by (Resumed l) false b = begins false b && follows false l most_in_row (suc l) b
 
--- whether octets that are as many as a header says, and no packet, are passed over as one
+-- over at most so many packets in a row is looked on, if only their lengths are believed
+abbrev pub most_damaged : ℕ
+most_damaged = 256
+
+-- whether lengths that are believed, and nothing else of what they are lengths of, lead from here
+-- to a packet with a right checksum, or, if the stream's end counts, to the end or into what it
+-- cuts off; over fewer than n packets
+unfoldable pub reaches : (end_counts : Bool) → (longest n : ℕ) → List ℕ → Bool
+reaches e l zero b = false
+reaches e l (suc n) b =
+    (e && is_awaited l b) || (fits l b && (begins false b || reaches e l n (behind b)))
+
+-- whether what is looked at is all that stands before the stream's end
+abbrev pub is_all : List ℕ → Bool
+is_all b = nat_lt (length b) lookahead
+
+-- whether the stream ends within what stands at the front in step, if that is as long as its header
+-- says
+abbrev pub is_cut_off : Cut → (in_step : Bool) → List ℕ → Bool
+is_cut_off Sealed s b = false
+is_cut_off Framed s b = false
+is_cut_off (Resumed l) s b = s && (is_all b && is_awaited l b)
+
+-- whether octets that are as many as a header says, and no packet, are passed over as one; or
+-- fewer, which the stream's end cuts off
 abbrev pub passes_by : Cut → List ℕ → Bool
 passes_by Sealed b = is_passed b
 passes_by Framed b = false
-passes_by Resumed b = false
+passes_by (Resumed l) b =
+    is_cut_off (Resumed l) true b || (fits l b && reaches (is_all b) l most_damaged (behind b))
+
+-- what stands there if none of these does: behind octets astray, where packets follow one another
+-- up to the stream's end, a packet; and else one octet
+abbrev pub other_by : Cut → (in_step : Bool) → List ℕ → PieceKind
+other_by Sealed s b = Stray
+other_by Framed s b = Stray
+other_by (Resumed l) true b = Stray
+other_by (Resumed l) false b =
+    if begins false b && follows true l most_in_row (suc l) b then Whole else Stray
 
 -- what stands at the front: a packet; or in step as many octets as a header says; or one octet
 abbrev pub kind_by : Cut → (in_step : Bool) → List ℕ → PieceKind
-kind_by c s b = if begins_by c s b then Whole else if s && passes_by c b then Damaged else Stray
+kind_by c s b =
+    if begins_by c s b then Whole else if s && passes_by c b then Damaged else other_by c s b
 
 -- the same by checksums
 abbrev pub kind_in : (in_step : Bool) → List ℕ → PieceKind
@@ -99,6 +165,10 @@ abbrev pub size_in : PieceKind → List ℕ → ℕ
 size_in Whole b = 7 + word_at b 4
 size_in Damaged b = 7 + word_at b 4
 size_in Stray b = 1
+
+-- the same of what stands at the front, where the stream may end within it
+abbrev pub len_by : Cut → (in_step : Bool) → List ℕ → ℕ
+len_by c s b = if is_cut_off c s b then length b else size_in (kind_by c s b) b
 
 -- ---- what may still come
 
@@ -132,12 +202,40 @@ abbrev pub waits : (in_step : Bool) → List ℕ → Bool
 waits s b =
     if is_framed b then s && not (begins s b) && is_open (behind b) else s || may_begin b
 
+-- whether it depends on octets that may still come where lengths lead from here
+unfoldable pub reach_waits : (longest n : ℕ) → List ℕ → Bool
+reach_waits l zero b = false
+reach_waits l (suc n) b =
+    if fits l b then not (begins false b) && reach_waits l n (behind b) else is_awaited l b
+
+-- whether it depends on them, in step, if lengths are believed: if not as many have come as the
+-- header says, and if as many have, until it is known where lengths lead
+abbrev pub waits_to_resume : (longest : ℕ) → List ℕ → Bool
+waits_to_resume l b = if fits l b then reach_waits l most_damaged (behind b) else is_awaited l b
+
+-- whether it depends on them how far packets follow one another from here
+unfoldable pub follow_waits : (longest n left : ℕ) → List ℕ → Bool
+follow_waits l zero left b = false
+follow_waits l (suc n) left b =
+    not (left == 0)
+    && (if fits l b then
+    ends_in_checksum (frame b) && follow_waits l n (left - (7 + word_at b 4)) (behind b)
+    else is_awaited l b)
+
 -- the same by each cut: lengths alone depend on what may come until the header's octets have come
 abbrev pub waits_by : Cut → (in_step : Bool) → List ℕ → Bool
 waits_by Sealed s b = waits s b
 waits_by Framed s b = (length b == 0) || (s && (is_version b && not (is_framed b)))
-waits_by Resumed true b = (length b == 0) || (is_version b && not (is_framed b))
-waits_by Resumed false b = waits false b
+waits_by (Resumed l) true b = is_all b && waits_to_resume l b
+waits_by (Resumed l) false b =
+    is_all b && (may_begin b && follow_waits l most_in_row (suc l) b)
+
+-- whether no octets that come change it that no packet begins: all that the header says have come,
+-- and by this cut those behind them don't count
+abbrev pub stays_judged : Cut → List ℕ → Bool
+stays_judged Sealed b = is_framed b
+stays_judged Framed b = is_framed b
+stays_judged (Resumed l) b = false
 
 -- ---- the stream
 
@@ -166,7 +264,7 @@ IsSealed k b = k ≡ Whole → verdict b ≢ Err Checksum
 abbrev pub IsSealedBy : Cut → PieceKind → List ℕ → Type 0
 IsSealedBy Sealed k b = IsSealed k b
 IsSealedBy Framed k b = ⊤
-IsSealedBy Resumed k b = ⊤
+IsSealedBy (Resumed l) k b = ⊤
 
 -- whether what comes behind is in step
 abbrev pub keeps_step : PieceKind → Bool

@@ -20,8 +20,8 @@ const LOOKAHEAD: usize = 131_084;
 
 /// The octets of a stream that were read and not passed over yet.
 ///
-/// What it keeps doesn't grow with the stream: at most 196,619 octets, which are fewer than those of
-/// two packets, and what one read gives. Behind octets that are no packet, registers of the
+/// What it keeps doesn't grow with the stream: at most 196,619 octets, which are fewer than those
+/// of two packets, and what one read gives. Behind octets that are no packet, registers of the
 /// checksum are kept as well, 2 octets each: one for each octet of two packets at most, and as many
 /// as the octets of one.
 #[derive(Drop)]
@@ -51,7 +51,7 @@ impl PacketBuffer {
     ghost use Rattle.std.specs.Io.KnownBytes.{Keeps};
     ghost use Rattle.lpt_text.specs.Streams.{WriteEnds};
     ghost use Rattle.lpt_stream.specs.Buffers.{cut_of, octets_held, is_ended, is_in_step, octets_kept, Fills, FindsPassing, IsInFront, IsUnsettled};
-    ghost use Rattle.lpt_stream.specs.Pieces.{begins_by, is_framed, keeps_step, lookahead, waits_by};
+    ghost use Rattle.lpt_stream.specs.Pieces.{begins_by, keeps_step, lookahead, stays_judged, waits_by};
 
     /// A stream of which nothing was read.
     pub fn new(alloc: Global, cut: Cut) -> Self
@@ -76,6 +76,13 @@ impl PacketBuffer {
         ensures { result.now ≡ octets_held self.now }
     {
         &self.octets[self.start..self.end]
+    }
+
+    /// Whether the stream's end was read.
+    pub fn is_ended(&self) -> bool
+        ensures { result ≡ is_ended self.now }
+    {
+        self.ended
     }
 
     /// Cites for how many octets there is room, of which some are held.
@@ -127,7 +134,7 @@ impl PacketBuffer {
                 None if self.ended => return Ok(None),
                 None => {}
             }
-            is_judged = self.is_framed();
+            is_judged = self.stays_judged();
             match flush_out(out) {
                 Ok(()) => {}
                 Err(fault) => return Err(fault),
@@ -204,11 +211,15 @@ impl PacketBuffer {
         !self.ended && waits(self.cut, near, self.in_step)
     }
 
-    // Whether as many octets are held as the header in front says.
-    fn is_framed(&self) -> bool
-        ensures { result ≡ is_framed (octets_held self.now) }
+    // Whether no more octets change that no packet begins in front: as many are held as the header
+    // there says, and those behind them don't count.
+    fn stays_judged(&self) -> bool
+        ensures { result ≡ stays_judged (cut_of self.now) (octets_held self.now) }
     {
-        whole_length(self.octets_held()).is_some()
+        match self.cut {
+            Cut::Sealed | Cut::Framed => whole_length(self.octets_held()).is_some(),
+            Cut::Resumed(_) => false,
+        }
     }
 
     // Reads some octets behind those that are held, or the stream's end, once a sink has passed on

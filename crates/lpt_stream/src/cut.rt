@@ -9,7 +9,10 @@ pub enum Cut {
     /// By the lengths that headers of version 0 say, and by nothing else: if none begins, that
     /// and all that comes behind is no packet.
     Framed,
-    /// By these lengths, and behind octets with which none begins by checksums, up to the next
-    /// packet.
-    Resumed,
+    /// By checksums and lengths, neither of which alone is believed, on a link whose longest packet
+    /// has so many octets. In step a packet is one whose checksum is right. What else is as long as
+    /// its header says is passed over, if lengths lead from there to a packet or to the end. Behind
+    /// octets astray a packet begins where packets follow one another for more octets than the
+    /// longest has, or up to the end. A longer length isn't believed.
+    Resumed(usize),
 }

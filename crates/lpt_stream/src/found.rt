@@ -1,12 +1,16 @@
 //! The piece at the front of a stream (CCSDS 133.0-B), if not all octets are packets.
 
-ghost use Rattle.std.specs.Prelude.{◌≡◌, ◌≢◌, ◌+◌, ◌<◌, ◌≤◌, ◌==◌, ◌||◌, ◌&&◌, true, false, length, take, None, IfSome};
+ghost use Rattle.std.specs.Prelude.{◌≡◌, ◌≢◌, ◌+◌, ◌<◌, ◌≤◌, ◌==◌, ◌||◌, ◌&&◌, if◌then◌else◌, true, false, length, take, None, IfSome};
 ghost use Rattle.lpt_packet.specs.Checksums.{checksum};
 ghost use Rattle.lpt_packet.specs.Numbers.{word_at};
 ghost use Rattle.lpt_packet.specs.Sizes.{longest_packet};
-ghost use Rattle.lpt_stream.specs.Pieces.{begins, begins_by, ends_in_checksum, is_found, is_framed, is_of_flags, is_version, kind_by, passes_by, size_in};
+ghost use Rattle.lpt_stream.specs.Pieces.{begins, begins_by, ends_in_checksum, is_all, is_cut_off, is_found, is_framed, is_of_flags, is_version, kind_by, len_by, other_by, passes_by};
+ghost use Rattle.lpt_stream.specs.declared.cut.Cut.TheVariants.{Resumed};
+ghost use Rattle.lpt_stream.specs.declared.piece_kind.PieceKind.TheVariants.{Whole, Stray};
 
 use crate::cutting::whole_length;
+use crate::front::LOOKAHEAD;
+use crate::reaching::{follows, is_awaited, reaches};
 use crate::waiting::may_begin;
 use crate::{Cut, PieceKind};
 use lpt_packet::{ERROR_CONTROL, PRIMARY_HEADER, PacketFault, Seen, crc16, read_packet};
@@ -31,8 +35,7 @@ pub(crate) fn packet_in_front(cut: Cut, bytes: &[u8], in_step: bool) -> Option<u
     match cut {
         Cut::Sealed => sealed_in_front(bytes, in_step),
         Cut::Framed => framed_in_front(bytes, in_step),
-        Cut::Resumed if in_step => framed_in_front(bytes, true),
-        Cut::Resumed => sealed_in_front(bytes, false),
+        Cut::Resumed(longest) => resumed_in_front(longest, bytes, in_step),
     }
 }
 
@@ -50,6 +53,24 @@ fn framed_in_front(bytes: &[u8], in_step: bool) -> Option<usize>
         return None;
     }
     whole_length(bytes)
+}
+
+// The same by checksums, if the packet isn't longer than the longest, and, out of step, if packets
+// follow one another from there for more octets.
+fn resumed_in_front(longest: usize, bytes: &[u8], in_step: bool) -> Option<usize>
+    ensures some { IfSome result (λ n. (begins_by (Resumed longest) in_step bytes.now ≡ true)
+        × (n ≡ 7 + word_at bytes.now 4)
+        × (n ≤ length bytes.now)) }
+    ensures least { IfSome result (λ n. 0 < n) }
+    ensures none { result ≡ None → begins_by (Resumed longest) in_step bytes.now ≡ false }
+{
+    let len = sealed_in_front(bytes, in_step)?;
+    let is_one = if in_step {
+        len <= longest
+    } else {
+        follows(false, longest, bytes)
+    };
+    if is_one { Some(len) } else { None }
 }
 
 // Whether the version of what begins here is 0, as far as it has come.
@@ -138,20 +159,74 @@ pub(crate) fn other_in_front(cut: Cut, bytes: &[u8], in_step: bool) -> Found
     requires some { 0 < length bytes.now }
     requires none { begins_by cut in_step bytes.now ≡ false }
     ensures kind { result.kind ≡ kind_by cut in_step bytes.now }
-    ensures len { result.len ≡ size_in result.kind bytes.now }
+    ensures len { result.len ≡ len_by cut in_step bytes.now }
     ensures least { 0 < result.len }
     ensures within { result.len ≤ length bytes.now }
 {
     match whole_length(bytes) {
-        Some(len) if in_step && passes_over(cut, bytes, len) => Found {
+        Some(len) => {
+            let kind = other_framed(cut, bytes, in_step, len);
+            let len = if kind == PieceKind::Stray { 1 } else { len };
+            Found { kind, len }
+        }
+        None => unfinished_in_front(cut, bytes, in_step),
+    }
+}
+
+// The same where fewer octets stand than the header says.
+fn unfinished_in_front(cut: Cut, bytes: &[u8], in_step: bool) -> Found
+    requires some { 0 < length bytes.now }
+    requires unfinished { is_framed bytes.now ≡ false }
+    ensures kind { result.kind ≡ kind_by cut in_step bytes.now }
+    ensures len { result.len ≡ len_by cut in_step bytes.now }
+    ensures least { 0 < result.len }
+    ensures within { result.len ≤ length bytes.now }
+{
+    if is_cut_off(cut, bytes, in_step) {
+        Found {
             kind: PieceKind::Damaged,
-            len,
-        },
-        _ => Found {
+            len: bytes.len(),
+        }
+    } else {
+        Found {
             kind: PieceKind::Stray,
             len: 1,
-        },
+        }
     }
+}
+
+// Whether the stream ends within what stands here in step, if its length is believed.
+fn is_cut_off(cut: Cut, bytes: &[u8], in_step: bool) -> bool
+    ensures { result ≡ is_cut_off cut in_step bytes.now }
+{
+    match cut {
+        Cut::Sealed | Cut::Framed => false,
+        Cut::Resumed(longest) => in_step && is_all(bytes) && is_awaited(longest, bytes),
+    }
+}
+
+// Whether what is looked at is all that stands before the stream's end.
+fn is_all(bytes: &[u8]) -> bool
+    ensures { result ≡ is_all bytes.now }
+{
+    bytes.len() < LOOKAHEAD
+}
+
+// The same where as many octets have come as the header says.
+fn other_framed(cut: Cut, bytes: &[u8], in_step: bool, len: usize) -> PieceKind
+    requires within { len ≤ length bytes.now }
+    requires len { len ≡ 7 + word_at bytes.now 4 }
+    requires none { begins_by cut in_step bytes.now ≡ false }
+    ensures { result ≡ kind_by cut in_step bytes.now }
+{
+    if in_step {
+        if passes_over(cut, bytes, len) {
+            return PieceKind::Damaged;
+        }
+    } else if is_last(cut, bytes) {
+        return PieceKind::Whole;
+    }
+    PieceKind::Stray
 }
 
 // Whether so many octets in front, as many as their header says, are passed over as one.
@@ -162,13 +237,33 @@ fn passes_over(cut: Cut, bytes: &[u8], len: usize) -> bool
 {
     match cut {
         Cut::Sealed => ends_or_goes_on(&bytes[len..]),
-        Cut::Framed | Cut::Resumed => false,
+        Cut::Framed => false,
+        Cut::Resumed(longest) => {
+            len <= longest && reaches(is_all(bytes), longest, &bytes[len..])
+        }
+    }
+}
+
+// Whether packets follow one another from there to the stream's end, behind octets astray.
+fn is_last(cut: Cut, bytes: &[u8]) -> bool
+    ensures { other_by cut false bytes.now ≡ (if result then Whole else Stray) }
+{
+    match cut {
+        Cut::Sealed | Cut::Framed => false,
+        Cut::Resumed(longest) => begins_again(bytes) && follows(true, longest, bytes),
     }
 }
 
 // Whether there are no octets, or a packet begins with them.
-fn ends_or_goes_on(bytes: &[u8]) -> bool
+pub(crate) fn ends_or_goes_on(bytes: &[u8]) -> bool
     ensures { result ≡ ((length bytes.now == 0) || begins false bytes.now) }
 {
-    bytes.is_empty() || sealed_in_front(bytes, false).is_some()
+    bytes.is_empty() || begins_again(bytes)
+}
+
+// Whether a packet begins with them, by its checksum.
+pub(crate) fn begins_again(bytes: &[u8]) -> bool
+    ensures { result ≡ begins false bytes.now }
+{
+    sealed_in_front(bytes, false).is_some()
 }

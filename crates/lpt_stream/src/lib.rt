@@ -1,8 +1,9 @@
 //! A stream of octets as space packets (CCSDS 133.0-B), one behind the other, and what is none. It
 //! is cut into pieces as it comes, each as soon as nothing that may still come can change it: no
 //! more of it is held than the octets of two packets and what one read gives. A `Cut` says whether
-//! checksums decide what a packet is, or lengths alone. By checksums, the next place is searched,
-//! behind octets that are none, at which a packet with a right checksum begins.
+//! checksums decide what a packet is, or lengths alone, or, of a live stream, both. By checksums,
+//! the next place is searched, behind octets that are none, at which a packet with a right checksum
+//! begins.
 //!
 //! The main type is `PacketBuffer`. The first call is `take_pieces`, with a `Taker`, which takes
 //! one piece after the other and writes what they give; or `each_piece`, with a `PieceTaker`, which
@@ -19,6 +20,7 @@ pub mod laws;
 mod nowhere;
 mod peer;
 mod piece_kind;
+mod reaching;
 mod strays;
 mod taking;
 mod waiting;
@@ -32,5 +34,6 @@ pub use front::piece_in_front;
 pub use lpt_text::{Sink, Source, StreamFault};
 pub use peer::Peer;
 pub use piece_kind::PieceKind;
+pub use reaching::is_awaited;
 pub use strays::strays_in_front;
 pub use taking::{PieceTaker, each_piece};

@@ -1,13 +1,15 @@
 //! Whether what stands at the front of a stream depends on octets that may still come.
 
-ghost use Rattle.std.specs.Prelude.{◌≡◌, ◌+◌, ◌<◌, ◌==◌, ◌||◌, ◌&&◌, not, length, true, false};
+ghost use Rattle.std.specs.Prelude.{◌≡◌, ◌+◌, ◌<◌, ◌==◌, ◌||◌, ◌&&◌, if◌then◌else◌, not, suc, length, true, false};
 ghost use Rattle.lpt_packet.specs.Numbers.{word_at};
 ghost use Rattle.lpt_packet.specs.Sizes.{longest_packet};
-ghost use Rattle.lpt_stream.specs.Pieces.{begins, begins_by, first_fits, flags_fit, is_framed, is_open, is_version, may_begin, size_fits, waits, waits_by};
+ghost use Rattle.lpt_stream.specs.Pieces.{begins, begins_by, first_fits, flags_fit, follow_waits, is_framed, is_open, is_version, may_begin, most_in_row, size_fits, waits, waits_by, waits_to_resume};
 
 use crate::Cut;
 use crate::cutting::whole_length;
 use crate::found::has_version;
+use crate::front::LOOKAHEAD;
+use crate::reaching::{believed_length, follow_waits, is_awaited, reach_waits};
 
 // Whether it does, of octets with which no packet begins as they are.
 pub(crate) fn waits(cut: Cut, bytes: &[u8], in_step: bool) -> bool
@@ -18,8 +20,7 @@ pub(crate) fn waits(cut: Cut, bytes: &[u8], in_step: bool) -> bool
     match cut {
         Cut::Sealed => sealed_waits(bytes, in_step),
         Cut::Framed => framed_waits(bytes, in_step),
-        Cut::Resumed if in_step => framed_waits(bytes, true),
-        Cut::Resumed => sealed_waits(bytes, false),
+        Cut::Resumed(longest) => bytes.len() < LOOKAHEAD && resumed_waits(longest, bytes, in_step),
     }
 }
 
@@ -31,6 +32,29 @@ fn framed_waits(bytes: &[u8], in_step: bool) -> bool
     ensures few { result ≡ true → length bytes.now < 131084 }
 {
     bytes.is_empty() || in_step && has_version(bytes) && whole_length(bytes).is_none()
+}
+
+// The same if lengths are believed that aren't above the longest packet's: in step where they lead,
+// and out of step how far packets follow one another.
+fn resumed_waits(longest: usize, bytes: &[u8], in_step: bool) -> bool
+    ensures { result ≡ (if in_step then waits_to_resume longest bytes.now
+        else may_begin bytes.now && follow_waits longest most_in_row (suc longest) bytes.now) }
+{
+    if in_step {
+        waits_to_resume(longest, bytes)
+    } else {
+        may_begin(bytes) && follow_waits(longest, bytes)
+    }
+}
+
+// Whether fewer octets have come than the header says, or it isn't known yet where lengths lead.
+fn waits_to_resume(longest: usize, bytes: &[u8]) -> bool
+    ensures { result ≡ waits_to_resume longest bytes.now }
+{
+    match believed_length(longest, bytes) {
+        Some(len) => reach_waits(longest, &bytes[len..]),
+        None => is_awaited(longest, bytes),
+    }
 }
 
 // The same by checksums.

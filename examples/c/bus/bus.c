@@ -109,7 +109,7 @@ void node_say(Node *it, const Head *head, const uint8_t *octets, size_t len) {
         memcpy(all + HEAD, octets, len);
     }
     len += HEAD;
-    len += put(all + len, lpt_crc16(all, len), 2);
+    len += put(all + len, sum_of(all, len), SUM);
     (void)send(it->link, all, len, 0); /* what isn't sent is lost */
     pass_place();
 }
@@ -123,14 +123,14 @@ static bool hear(Node *it, Head *head, uint8_t *octets, size_t *len) {
     }
     *len = 0;
     memset(head, 0, sizeof *head);
-    if (got >= HEAD + 2 && got <= MOST_OCTETS &&
-        number(all + got - 2, 2) == lpt_crc16(all, (size_t)got - 2)) {
+    if (got >= HEAD + SUM && got <= MOST_OCTETS &&
+        number(all + got - SUM, SUM) == sum_of(all, (size_t)got - SUM)) {
         head->kind = all[0];
         head->direction = all[1];
         head->name.source = (uint16_t)number(all + 2, 2);
         head->name.id = (uint16_t)number(all + 4, 2);
         head->turn = number(all + 6, 4);
-        *len = (size_t)got - HEAD - 2;
+        *len = (size_t)got - HEAD - SUM;
         memcpy(octets, all + HEAD, *len);
     }
     return true;

@@ -8,9 +8,11 @@
  * 255 areas, and the others by the bounds below.
  *
  * Datagrams go over UDP. Each begins with its kind, a name with its direction, and the turn of that
- * name (freeing.h), and ends with a checksum. Some carry packets, and some are the programs' own
- * lines. By ASKS the sender of a message asks what is missing of it; the answer is MISSING, with
- * part numbers, or ENDED. By FINISHED and FREED a name is freed.
+ * name (freeing.h), and ends with a checksum, CRC-32. (The CRC of a packet around the packet would
+ * let the same damage pass twice: whatever it lets pass within, it lets pass again.) Some carry
+ * packets, and some are the programs' own lines. By ASKS the sender of a message asks what is
+ * missing of it; the answer is MISSING, with part numbers, or ENDED. By FINISHED and FREED a name is
+ * freed.
  */
 #ifndef BUS_BUS_H
 #define BUS_BUS_H
@@ -39,7 +41,7 @@ typedef struct Head {
     uint32_t turn;
 } Head;
 
-enum { HEAD = 10, MOST_OCTETS = HEAD + LONGEST + 2 };
+enum { HEAD = 10, SUM = 4, MOST_OCTETS = HEAD + LONGEST + SUM };
 
 /* A message that is open for sending: how many parts it has, which part is next, and for how many
    cycles nothing was heard of it since the last part was sent. */

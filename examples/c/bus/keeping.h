@@ -45,7 +45,7 @@ void write_kept(uint8_t *copies, Kept *kept);
 /* Copies octets to mapped ones piece by piece, and waits for the medium. */
 void write_pieces(uint8_t *to, const uint8_t *octets, size_t len);
 
-/* Returns a checksum of octets, of 32 bits. */
+/* Returns the CRC-32 of octets, that of IEEE 802.3. */
 uint32_t sum_of(const uint8_t *octets, size_t len);
 
 /* For a test. The first sets after how many writes and sends the program kills itself; 0 means

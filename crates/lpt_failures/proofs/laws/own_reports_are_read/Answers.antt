@@ -1,5 +1,5 @@
 -- The lemmas say it.
-use Rattle.lpt_failures.proofs.FailureLemmas.{own-read, success-read}
+use Rattle.lpt_failures.proofs.FailureLemmas.{own-code, own-read, success-read}
 use Rattle.lpt_failures.proofs.laws.own_reports_are_read.Goals as goal
 
 pub returns-clause-read : goal.returns-clause-read
@@ -7,3 +7,6 @@ returns-clause-read c = own-read
 
 pub returns-clause-success : goal.returns-clause-success
 returns-clause-success c = success-read
+
+pub returns-clause-codes : goal.returns-clause-codes
+returns-clause-codes c = own-code

@@ -11,5 +11,5 @@ returns c k first xs x content place l terms w answers config can known fits api
     =
     passes_leave_the_image k first xs x content terms.source place _ config can known fits pass
     (done-heard k first xs terms w.of_request (without_nothing answers) apid loads
-    (subst (WerePutOut k first xs) (sym (same-packets answers)) put)
+    (subst (WerePutOut k first xs terms) (sym (same-packets answers)) put)
     (request-done l terms w answers is))

@@ -1,14 +1,12 @@
 -- What the piece in front is.
-use Rattle.std.proofs.Common.{◌≡◌, ◌∙◌, sym, subst, true}
+use Rattle.std.proofs.Common.{◌≡◌, ◌∙◌, ap, sym, true, false}
 use Rattle.std.proofs.KnownBytes.{Keeps-trans}
 use Rattle.std.proofs.lemmas.Result.{err_from_is_err_and}
-use Rattle.lpt_packet.specs.Numbers.{IsOctets}
-use Rattle.lpt_stream.specs.Buffers.{octets_held}
-use Rattle.lpt_stream.specs.Pieces.{is_version}
+use Rattle.lpt_stream.specs.Streams.{length_at}
 use Rattle.lpt_stream.proofs.BufferLemmas.{finds_as}
 use Rattle.lpt_stream.proofs.EndLemmas.{writer-after}
-use Rattle.lpt_spacecraft.specs.Stretches.{IsStray}
-use Rattle.lpt_spacecraft.proofs.SearchLemmas.{front-cut, front-end, front-packet, front-stray, front-strays, search-behind, search-piece}
+use Rattle.lpt_spacecraft.proofs.FrontLemmas.{front-cut, front-damaged, front-end, front-packet, front-stray, front-strays, taken-as}
+use Rattle.lpt_spacecraft.proofs.SearchLemmas.{search-behind, search-piece}
 use Rattle.lpt_spacecraft.proofs.front.find_front.Goals as goal
 
 -- a search for it failed
@@ -25,35 +23,55 @@ returns-in_default-clause-finds g c =
     (finds_as _ _ _ _ _ _ _ _ c.in_default.is c.in_ok-found.ensures.finds)
 
 -- a packet
-pub returns-then-is_packet-clause-finds : goal.returns-then-is_packet-clause-finds
-returns-then-is_packet-clause-finds g c =
+pub returns-then-is_taken-clause-finds : goal.returns-then-is_taken-clause-finds
+returns-then-is_taken-clause-finds g c =
     front-packet c.args.passing c.args.place c.in-Some.found _ _ _ _ _ _ c.requires.cutting
     (finds_as _ _ _ _ _ _ _ _ c.in-Some.is c.in_ok-found.ensures.finds)
-    (sym c.is_packet.ensures ∙ c.if-is_packet.true)
+    (taken-as c.args.passing c.in-Some.found.kind c.in-Some.found.len _ _ _ true
+    c.is_taken.ensures c.octets_held-octets.ensures c.if-is_taken.true)
 
 -- one that is cut off
-pub returns-then-has_version-clause-finds : goal.returns-then-has_version-clause-finds
-returns-then-has_version-clause-finds g c =
-    front-cut c.args.passing c.args.place c.in-Some.found _ _ _ _ _ _ c.requires.cutting
+pub returns-then-is_cut_off-clause-finds : goal.returns-then-is_cut_off-clause-finds
+returns-then-is_cut_off-clause-finds g c =
+    front-cut c.args.passing c.args.place _ c.in-Some.found _ _ _ _ _ _ c.requires.cutting
     (finds_as _ _ _ _ _ _ _ _ c.in-Some.is c.in_ok-found.ensures.finds)
-    (sym c.is_packet.ensures ∙ c.if-is_packet.false)
-    (subst IsOctets c.octets_held-octets.ensures c.has_version.ensures.octets)
-    (subst (λ b. is_version b ≡ true) c.octets_held-octets.ensures
-    (sym c.has_version.ensures.version ∙ c.if-has_version.true))
+    (c.packet_length-said.ensures.value ∙ ap length_at c.octets_held-octets.ensures)
+    (sym c.is_cut_off.ensures ∙ c.if-is_cut_off.true)
 
--- octets of another version
-pub returns-then-not-passing-clause-finds : goal.returns-then-not-passing-clause-finds
-returns-then-not-passing-clause-finds g c =
-    front-stray c.args.passing c.args.place c.in-Some.found _ _ _ _ _ _ c.requires.cutting
+-- what is no packet
+pub returns-then-not-is_on-clause-finds : goal.returns-then-not-is_on-clause-finds
+returns-then-not-is_on-clause-finds g c =
+    front-stray c.args.passing c.args.place _ c.in-Some.found _ _ _ _ _ _ c.requires.cutting
     (finds_as _ _ _ _ _ _ _ _ c.in-Some.is c.in_ok-found.ensures.finds)
-    (subst IsStray c.octets_held-octets.ensures
-    (sym c.has_version.ensures.version ∙ c.if-has_version.false))
-    c.if-not-passing.true
+    (c.packet_length-said.ensures.value ∙ ap length_at c.octets_held-octets.ensures)
+    (taken-as c.args.passing c.in-Some.found.kind c.in-Some.found.len _ _ _ false
+    c.is_taken.ensures c.octets_held-octets.ensures c.if-is_taken.false)
+    c.if-not-is_on.true
+
+-- a damaged packet, which was passed over
+pub skip-requires : goal.skip-requires
+skip-requires g c =
+    let found = finds_as _ _ _ _ _ _ _ _ c.in-Some.is c.in_ok-found.ensures.finds in
+    found.2.within
+
+pub returns-then-not-is_stray-clause-finds : goal.returns-then-not-is_stray-clause-finds
+returns-then-not-is_stray-clause-finds g c =
+    front-damaged c.args.passing c.args.place c.in-Some.found _ _ _ _ _ _ _ c.requires.cutting
+    (finds_as _ _ _ _ _ _ _ _ c.in-Some.is c.in_ok-found.ensures.finds)
+    (taken-as c.args.passing c.in-Some.found.kind c.in-Some.found.len _ _ _ false
+    c.is_taken.ensures c.octets_held-octets.ensures c.if-is_taken.false)
+    c.if-not-is_on.false
+    (sym c.is_stray.ensures ∙ c.if-not-is_stray.true)
+    c.skip.ensures.held c.skip.ensures.cut c.skip.ensures.step c.skip.ensures.end
+
+-- octets astray
+pub pass_over-requires-clause-front : goal.pass_over-requires-clause-front
+pass_over-requires-clause-front g c =
+    let found = finds_as _ _ _ _ _ _ _ _ c.in-Some.is c.in_ok-found.ensures.finds in
+    found.2
 
 pub pass_over-requires-clause-stray : goal.pass_over-requires-clause-stray
-pass_over-requires-clause-stray g c =
-    subst IsStray c.octets_held-octets.ensures
-    (sym c.has_version.ensures.version ∙ c.if-has_version.false)
+pass_over-requires-clause-stray g c = sym c.is_stray.ensures ∙ c.if-not-is_stray.false
 
 pub pass_over-requires-clause-cut : goal.pass_over-requires-clause-cut
 pass_over-requires-clause-cut g c =
@@ -66,7 +84,7 @@ returns-clause-finds g c =
     front-strays c.args.passing c.args.place c.in_ok-len.len c.in-Some.found _ _ _ _ _ _ _ _ _
     c.requires.cutting
     (finds_as _ _ _ _ _ _ _ _ c.in-Some.is c.in_ok-found.ensures.finds)
-    c.if-not-passing.false c.in_ok-len.ensures.passes
+    c.if-not-is_on.false c.in_ok-len.ensures.passes
 
 -- or a fault ended that
 pub returns-in_err-len-clause-finds : goal.returns-in_err-len-clause-finds

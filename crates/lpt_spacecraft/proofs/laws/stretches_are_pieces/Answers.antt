@@ -1,9 +1,8 @@
--- Stretch after stretch.
-use Rattle.lpt_spacecraft.proofs.PieceLemmas.{framed_pieces, resumed_pieces}
+use Rattle.std.proofs.Common.{true}
+use Rattle.lpt_spacecraft.proofs.PieceLemmas.{are-pieces}
 use Rattle.lpt_spacecraft.proofs.laws.stretches_are_pieces.Goals as goal
 
-pub returns-clause-resumed : goal.returns-clause-resumed
-returns-clause-resumed c = resumed_pieces
-
-pub returns-clause-framed : goal.returns-clause-framed
-returns-clause-framed c = framed_pieces
+pub returns : goal.returns
+returns f =
+    λ passing stream stretches rest h.
+    let k = are-pieces passing true h.0 stream rest stretches h.1 in (k.0, h.0, k.1, k.2)

@@ -4,16 +4,17 @@ use Rattle.lpt_text.specs.Streams.{ReadFails}
 use Rattle.lpt_stream.specs.Buffers.{octets_held}
 use Rattle.lpt_spacecraft.specs.Waiting.{HandsOver, IsUnending}
 use Rattle.lpt_spacecraft.specs.declared.front.Front.TheVariants as fronts
+use Rattle.lpt_spacecraft.proofs.FrontLemmas.{front-as}
 use Rattle.lpt_spacecraft.proofs.RelayLemmas.{hands-fault, hands-front, hands-reader, hands-stop, relayed-frame, relayed-more, relayed-none, relayed-run, unending}
-use Rattle.lpt_spacecraft.proofs.SearchLemmas.{cutting-new, cutting-next, front-as}
+use Rattle.lpt_spacecraft.proofs.SearchLemmas.{cutting-new, cutting-next}
 use Rattle.lpt_spacecraft.proofs.relaying.relay_stream.Goals as goal
 
 pub loop-count-init : goal.loop-count-init
 loop-count-init g c = record {
   handed = relayed-none c.args.passing (g.P.Peer.remaining c.args.peer.now)
-      (g.R.Relay.handed c.args.relay.now) (octets_held c.new-buffer.result) _
-      c.new-buffer.ensures.held;
-  cutting = cutting-new c.new-buffer.result (g.P.Peer.remaining c.args.peer.now)
+      (g.R.Relay.handed c.args.relay.now) (octets_held c.new-buffer.result) _ _
+      c.new-buffer.ensures.held c.new-buffer.ensures.step;
+  cutting = cutting-new c.args.passing c.new-buffer.result (g.P.Peer.remaining c.args.peer.now)
       c.new-buffer.ensures.cut c.new-buffer.ensures.step c.new-buffer.ensures.end;
   reader = refl;
 }
@@ -39,12 +40,12 @@ returns-then-not-hand-clause-hands g c =
     let found = front-as _ _ (fronts.Strays c.in-Ok-Strays.len) _ _ _ _ _ _ _
     c.in-Ok-Strays.field-0-is c.in-Ok-Strays.ensures.finds in
     hands-front c.args.passing _ _ _ _ _ _ _ _
-    (relayed-run c.args.passing _ _ _ _ _ _ (octets_held c.find_front.new.buffer) _
+    (relayed-run c.args.passing _ _ _ _ _ _ (octets_held c.find_front.new.buffer) _ _ _
     c.loop-count.count c.loop-count.place c.in-Ok-Strays.len
     (min (c.loop-count.place + c.in-Ok-Strays.len) (2 ^ 64 - 1))
     (relayed-more c.args.passing _ _ _ _ _ _ found.0 _ _ _ _ _ c.loop-count.invariant.handed
     found.1.consumed found.1.stays refl)
-    found.3.1 found.3.2 found.3.0 c.hand.ensures.handed refl)
+    found.3.2 found.3.1 found.3.0 c.hand.ensures.handed refl)
 
 -- it was handed over
 pub loop-count-preserved-in-Ok-Strays : goal.loop-count-preserved-in-Ok-Strays
@@ -52,11 +53,11 @@ loop-count-preserved-in-Ok-Strays g c =
     let found = front-as _ _ (fronts.Strays c.in-Ok-Strays.len) _ _ _ _ _ _ _
     c.in-Ok-Strays.field-0-is c.in-Ok-Strays.ensures.finds in
     record {
-      handed = relayed-run c.args.passing _ _ _ _ _ _ (octets_held c.find_front.new.buffer) _
+      handed = relayed-run c.args.passing _ _ _ _ _ _ (octets_held c.find_front.new.buffer) _ _ _
           c.loop-count.count c.loop-count.place c.in-Ok-Strays.len _
           (relayed-more c.args.passing _ _ _ _ _ _ found.0 _ _ _ _ _
           c.loop-count.invariant.handed found.1.consumed found.1.stays refl)
-          found.3.1 found.3.2 found.3.0 c.hand.ensures.handed c.saturating_add-place.ensures;
+          found.3.2 found.3.1 found.3.0 c.hand.ensures.handed c.saturating_add-place.ensures;
       cutting = found.2;
       reader = found.4 ∙ c.loop-count.invariant.reader;
     }
@@ -101,11 +102,11 @@ returns-then-not-hand-2-clause-hands g c =
     ∙ ap (take len) c.octets_held.ensures in
     hands-front c.args.passing _ _ _ _ _ _ _ _
     (relayed-frame c.args.passing _ _ _ _ _ _ (drop len (octets_held c.find_front.new.buffer))
-    c.from_vec.result _ _ c.loop-count.count c.loop-count.place len
+    c.from_vec.result _ _ _ _ c.loop-count.count c.loop-count.place len
     (min (c.loop-count.place + len) (2 ^ 64 - 1))
     (relayed-more c.args.passing _ _ _ _ _ _ found.0 _ _ _ _ _ c.loop-count.invariant.handed
     found.1.consumed found.1.stays found.3.0)
-    found.3.2 found.3.1 is c.hand-in-loop-count.ensures.handed refl refl refl)
+    found.3.2 found.3.1 is c.hand-in-loop-count.ensures.handed refl refl refl refl)
 
 -- one was handed over
 pub loop-count-preserved : goal.loop-count-preserved
@@ -117,13 +118,14 @@ loop-count-preserved g c =
     c.from_vec.ensures ∙ c.in-Ok.ensures.items
     ∙ ap (take len) c.octets_held.ensures in
     record {
-      handed = relayed-frame c.args.passing _ _ _ _ _ _ _ c.from_vec.result _ _ c.loop-count.count
-          c.loop-count.place len _
+      handed = relayed-frame c.args.passing _ _ _ _ _ _ _ c.from_vec.result _ _ _ _
+          c.loop-count.count c.loop-count.place len _
           (relayed-more c.args.passing _ _ _ _ _ _ found.0 _ _ _ _ _
           c.loop-count.invariant.handed found.1.consumed found.1.stays found.3.0)
           found.3.2 found.3.1 is c.hand-in-loop-count.ensures.handed
-          c.saturating_add-place-in-loop-count.ensures c.skip.ensures.held c.skip.ensures.end;
-      cutting = cutting-next c.find_front.new.buffer c.skip.new.self _ found.2
+          c.saturating_add-place-in-loop-count.ensures c.skip.ensures.held c.skip.ensures.end
+          c.skip.ensures.step;
+      cutting = cutting-next c.args.passing c.find_front.new.buffer c.skip.new.self _ found.2
           c.skip.ensures.cut c.skip.ensures.step c.skip.ensures.end;
       reader = found.4 ∙ c.loop-count.invariant.reader;
     }

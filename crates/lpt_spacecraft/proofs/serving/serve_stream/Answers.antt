@@ -6,8 +6,9 @@ use Rattle.lpt_spacecraft.specs.Streams.{length_of, ServesTo}
 use Rattle.lpt_spacecraft.specs.declared.front.Front.TheVariants as fronts
 use Rattle.lpt_spacecraft.specs.declared.told.Told.{Told}
 use Rattle.lpt_spacecraft.proofs.EventLemmas.{served-more, served-next, served-none}
+use Rattle.lpt_spacecraft.proofs.FrontLemmas.{front-as}
 use Rattle.lpt_spacecraft.proofs.NoiseLemmas.{served-passed}
-use Rattle.lpt_spacecraft.proofs.SearchLemmas.{cutting-new, cutting-next, front-as}
+use Rattle.lpt_spacecraft.proofs.SearchLemmas.{cutting-new, cutting-next}
 use Rattle.lpt_spacecraft.proofs.StreamLemmas.{endless, serve-broken, serve-fault, serve-read, serve-reader, serve-stop}
 use Rattle.lpt_spacecraft.proofs.serving.serve_stream.Goals as goal
 
@@ -16,9 +17,10 @@ loop-count-init g c = record {
   served = served-none c.args.pace c.args.craft.now c.new-course.result
       (g.P.Peer.remaining c.args.peer.now) (g.K.Sink.contents c.args.out.now)
       (g.C.Clock.answers c.args.clock.now) (g.L.Listener.heard c.args.listener.now)
-      (octets_held c.new-buffer.result) _ c.new-buffer.ensures.held c.new-course.ensures.pace
+      (octets_held c.new-buffer.result) _ _ c.new-buffer.ensures.held c.new-buffer.ensures.step
+      c.new-course.ensures.pace
       c.new-course.ensures.since c.new-course.ensures.uses;
-  cutting = cutting-new c.new-buffer.result (g.P.Peer.remaining c.args.peer.now)
+  cutting = cutting-new c.args.pace.passing c.new-buffer.result (g.P.Peer.remaining c.args.peer.now)
       c.new-buffer.ensures.cut c.new-buffer.ensures.step c.new-buffer.ensures.end;
   idle = c.requires.idle;
   kept = c.requires.kept;
@@ -37,8 +39,8 @@ loop-count-preserved-in-Ok-Strays g c =
     c.in-Ok-Strays.ensures.same in
     record {
       served = served-passed c.args.pace c.args.craft.now c.loop-count.craft c.loop-count.course _ _
-          _ (octets_held c.find_front.new.buffer) _ _ _ c.in-Ok-Strays.len _ at found.3.1 found.3.2
-          found.3.0 c.tell.ensures c.saturating_add-place.ensures;
+          _ (octets_held c.find_front.new.buffer) _ _ _ _ _ c.in-Ok-Strays.len _ at found.3.2
+          found.3.1 found.3.0 c.tell.ensures c.saturating_add-place.ensures;
       cutting = found.2;
       idle = c.loop-count.invariant.idle;
       kept = c.loop-count.invariant.kept;
@@ -154,15 +156,15 @@ loop-count-preserved g c =
       served = served-next c.args.pace c.args.craft.now c.loop-count.craft c.serve_packet.new.craft
           c.loop-count.course c.serve_packet.new.course c.loop-count.craft.config _ _ _ _
           (octets_held c.find_front.new.buffer) _
-          (take c.in-Ok-Packet.len c.octets_held.result.now) _ _ c.due_by-due.result
+          (take c.in-Ok-Packet.len c.octets_held.result.now) _ _ _ _ c.due_by-due.result
           c.loop-count.count c.loop-count.place c.in-Ok-Packet.len _
           at
           c.loop-count.invariant.config found.3.2 found.3.1
           (ap (take c.in-Ok-Packet.len) c.octets_held.ensures) c.due_by-due.ensures
           c.in-Ok.ensures.ok c.in-Ok.ensures.since c.in-Ok.ensures.pace
           c.saturating_add-place-in-loop-count.ensures c.skip.ensures.held
-          c.skip.ensures.end;
-      cutting = cutting-next c.find_front.new.buffer c.skip.new.self _ found.2
+          c.skip.ensures.end c.skip.ensures.step;
+      cutting = cutting-next c.args.pace.passing c.find_front.new.buffer c.skip.new.self _ found.2
           c.skip.ensures.cut c.skip.ensures.step c.skip.ensures.end;
       idle = c.in-Ok.ensures.idle;
       kept = c.in-Ok.ensures.kept;

@@ -1,5 +1,5 @@
 use Rattle.std.proofs.Common.{◌≡◌}
-use Rattle.lpt_stream.specs.Buffers.{is_ended, octets_held}
+use Rattle.lpt_stream.specs.Buffers.{is_ended, is_in_step, octets_held}
 use Rattle.lpt_spacecraft.specs.Fronts.{IsCutting}
 use Rattle.lpt_spacecraft.specs.Keeping.{IsKeptAs}
 use Rattle.lpt_spacecraft.specs.Streams.{IsIdle}
@@ -18,8 +18,8 @@ invariant-loop-count g l = record {
     answered = g.C.Clock.answers l.clock;
     had = g.L.Listener.heard l.fn.listener;
     has = g.L.Listener.heard l.listener;
-  }) (octets_held l.buffer) (is_ended l.buffer) l.count l.place;
-  cutting : IsCutting l.buffer (g.P.Peer.remaining l.peer);
+  }) (octets_held l.buffer) (is_ended l.buffer) (is_in_step l.buffer) l.count l.place;
+  cutting : IsCutting l.fn.pace.passing l.buffer (g.P.Peer.remaining l.peer);
   idle : IsIdle l.craft;
   kept : IsKeptAs (g.H.Keeper.kept l.keeper) l.craft;
   config : l.craft.config ≡ l.fn.craft.config;

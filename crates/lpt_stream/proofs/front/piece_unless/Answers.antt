@@ -1,6 +1,8 @@
 -- What is looked at shows the piece in front.
 use Rattle.std.proofs.Common.{◌≡◌, ◌⊎◌, ◌∙◌, inl, inr, refl, sym, subst, List, ℕ, true, false, take}
 use Rattle.lpt_stream.specs.Pieces.{begins, waits}
+use Rattle.lpt_stream.specs.declared.cut.Cut.TheVariants.{Sealed}
+use Rattle.lpt_stream.proofs.ByLemmas.{exact}
 use Rattle.lpt_stream.proofs.BufferLemmas.{near_held, some_held}
 use Rattle.lpt_stream.proofs.FrontLemmas.{packet_there, other_there, open_there}
 use Rattle.lpt_stream.proofs.front.piece_unless.Goals as goal
@@ -50,7 +52,9 @@ returns-clause-piece c =
     c.other_in_front.result.len
     (near_held c.args.octets.now c.args.octets.now c.min.result refl c.min.ensures)
     (some_held c.args.octets.now c.args.octets.now refl c.if-is_empty.ensures)
-    (known c) c.other_in_front.ensures.kind c.other_in_front.ensures.len
+    (known c) c.other_in_front.ensures.kind
+    (exact Sealed c.args.in_step _ c.other_in_front.result.kind c.other_in_front.result.len refl
+    c.other_in_front.ensures.kind c.other_in_front.ensures.len)
     c.other_in_front.ensures.within).piece
 
 pub returns-clause-stays : goal.returns-clause-stays
@@ -59,5 +63,7 @@ returns-clause-stays c =
     c.other_in_front.result.len
     (near_held c.args.octets.now c.args.octets.now c.min.result refl c.min.ensures)
     (some_held c.args.octets.now c.args.octets.now refl c.if-is_empty.ensures)
-    (known c) c.other_in_front.ensures.kind c.other_in_front.ensures.len
+    (known c) c.other_in_front.ensures.kind
+    (exact Sealed c.args.in_step _ c.other_in_front.result.kind c.other_in_front.result.len refl
+    c.other_in_front.ensures.kind c.other_in_front.ensures.len)
     c.other_in_front.ensures.within).stays

@@ -23,7 +23,7 @@ returns-in-None-clause-held c = λ bs h is.
     let made = c.in_ok-news.ensures.steps (course_held r any n bs) (h.each n) in
     each-part r any bs b (part_named c.args.part.now) is n refl
     c.args.self c.step.new.self made.0 c.missing-missing.result
-    c.in_ok-news.ensures.others made.1 c.in_ok-news.ensures.in_order up_to made.2.follows
+    c.in_ok-news.ensures.others made.1 c.in_ok-news.ensures.in_order up_to made.2.keeps
     (ap counts_shown c.in_ok-news.ensures.counts ∙ c.in_ok-take.ensures) h
 
 pub returns-in-Some-clause-held : goal.returns-in-Some-clause-held
@@ -38,7 +38,7 @@ returns-in-Some-clause-held c = λ bs h is.
     let made = c.in_ok-news.ensures.steps (course_held r any n bs) (h.each n) in
     each-part r any bs b (part_named c.args.part.now) is n refl
     c.args.self c.step.new.self made.0 c.missing-missing.result
-    c.in_ok-news.ensures.others made.1 c.in_ok-news.ensures.in_order up_to made.2.follows
+    c.in_ok-news.ensures.others made.1 c.in_ok-news.ensures.in_order up_to made.2.keeps
     (ap counts_shown c.in_ok-news.ensures.counts ∙ c.in_ok-take.ensures) h
 
 -- nothing is told, or something

@@ -5,4 +5,4 @@ use Rattle.lpt_layout_join.proofs.came.CameAs.copy.Goals as goal
 pub returns-clause-came : goal.returns-clause-came
 returns-clause-came c = λ came h.
     shows-copy came c.args.self.now _ c.in_ok-slots.ensures.octets c.in_ok-slots.ensures.spans
-    c.in_ok-slots.ensures.count refl refl refl refl h
+    refl refl refl h

@@ -6,7 +6,7 @@ use Rattle.lpt_layout_join.proofs.gathering.Gathering.new.Goals as goal
 pub returns : goal.returns
 unfolding parts_gathered
 returns c = λ r n. record {
-  came_is = c.new.ensures;
+  came_is = c.new.ensures.shows;
   order_is = c.none.ensures;
   sure_is = refl;
   numbers_are = c.new-2.ensures.none;

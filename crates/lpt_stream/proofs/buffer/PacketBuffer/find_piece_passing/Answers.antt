@@ -63,9 +63,9 @@ loop-found-preserved g c = record {
   judged = λ e.
       judged-more c.loop-found.self c.fill_passing.new.self (g.P.Peer.remaining c.loop-found.source)
       (g.P.Peer.remaining c.fill_passing.new.peer) c.in-Ok-fill_passing.ensures.0
-      c.is_framed-is_judged.result
+      c.stays_judged-is_judged.result
       c.in-Ok-fill_passing.ensures.1
-      (c.in-None.ensures.none refl) c.is_framed-is_judged.ensures e;
+      (c.in-None.ensures.none refl) c.stays_judged-is_judged.ensures e;
   told = c.in-Ok-fill_passing.ensures.2 ∙ c.loop-found.invariant.told;
   same = Keeps-trans (g.K.Sink.contents c.args.out.now) (g.K.Sink.contents c.loop-found.out)
       (g.K.Sink.contents c.flush_out.new.out) c.loop-found.invariant.same c.in-Ok.ensures.same;
