@@ -45,6 +45,11 @@ class Near(NamedTuple):
         said = self.length_said(at)
         return said is None or said <= self.longest and at + said > self.end
 
+    def is_too_short(self, at):
+        """Whether a header says seven octets, and not that they are an idle packet: zeros read as a header do."""
+        idle = (self.stream[at] & 7) << 8 | self.stream[at + 1] == 2047
+        return self.length_said(at) == 7 and not idle
+
     def framed(self, at):
         """As many octets as the header says."""
         return self.stream[at : at + self.length_said(at)]
@@ -54,7 +59,7 @@ class Near(NamedTuple):
         for _ in range(MOST_DAMAGED):
             if self.is_cut_off(at):
                 return self.is_all
-            if not self.fits(at):
+            if not self.fits(at) or self.is_too_short(at):
                 return False
             if is_taken(self.framed(at), False):
                 return True

@@ -1,41 +1,73 @@
 -- While lengths are intact, nothing inside a packet is taken for one.
-use Rattle.std.proofs.Common.{◌≡◌, ◌⊎◌, ◌∙◌, ap, sym, subst, refl, inl, inr, ℕ, zero, suc, ◌+◌, ◌-◌, ◌<◌, ◌≤◌, ◌==◌, nat_le, nat_lt, Bool, true, false, ◌&&◌, ◌||◌, if◌then◌else◌, List, [], ◌∷◌, ◌++◌, length, take, drop, arith, append-nil, append_assoc, length-append, length-take, take_all}
+use Rattle.std.proofs.Common.{◌≡◌, ◌⊎◌, ◌∙◌, ap, sym, subst, refl, inl, inr, ℕ, zero, suc, ◌+◌, ◌-◌, ◌<◌, ◌≤◌, ◌==◌, nat_le, nat_lt, ◌%◌, Bool, true, false, not, ◌&&◌, ◌||◌, if◌then◌else◌, List, [], ◌∷◌, ◌++◌, length, take, drop, arith, append-nil, append_assoc, length-append, length-take, take_all}
 use Rattle.std.specs.Prelude.{⊤}
 use Rattle.std.proofs.Math.Seq.{drop-append_seam, take-append_seam}
 use Rattle.lpt_packet.specs.Numbers.{word_at}
 use Rattle.lpt_packet.specs.Packets.{Fields, IsPacket}
 use Rattle.lpt_packet.proofs.Readings.{eq_false}
 use Rattle.lpt_stream.specs.declared.cut.Cut.TheVariants.{Resumed}
-use Rattle.lpt_stream.specs.declared.piece_kind.PieceKind.{PieceKind}
 use Rattle.lpt_stream.specs.declared.piece_kind.PieceKind.TheVariants.{Whole, Damaged, Stray}
-use Rattle.lpt_stream.specs.Lengths.{AreLed, AreRight, IsEndOrNext, IsFollowed, IsFoundBy, IsRight, IsRun, cut_whole}
-use Rattle.lpt_stream.specs.Pieces.{LeadsBy, Piece, begins, begins_by, ends_in_checksum, fits, follows, frame, is_all, is_awaited, is_cut_off, is_found, is_framed, is_short, keeps_step, kind_by, lookahead, most_damaged, most_in_row, passes_by, piece_by, piece_of, reaches, size_in}
+use Rattle.lpt_stream.specs.Lengths.{AreLed, IsEndOrNext, IsFollowed, cut_whole}
+use Rattle.lpt_stream.specs.Pieces.{LeadsBy, Piece, begins, begins_by, first_fits, fits, flags_fit, frame, is_all, is_awaited, is_cut_off, is_found, is_framed, is_short, is_too_short, keeps_step, leads, kind_by, lookahead, most_damaged, passes_by, piece_by, piece_of, reaches, size_fits, size_in}
 use Rattle.lpt_stream.specs.Streams.{IsFramed, all_octets}
 use Rattle.lpt_stream.proofs.ByLemmas.{cut_stays_by, packet_stays_by, unframed_kind}
 use Rattle.lpt_stream.proofs.DamageLemmas.{framed, front, packet_begins, rest_is, size, some, take_past}
-use Rattle.lpt_stream.proofs.PieceLemmas.{of_kind, whole}
-use Rattle.lpt_stream.proofs.BelievedLemmas.{awaited_few, awaited_unframed}
-use Rattle.lpt_stream.proofs.ReachLemmas.{reached, reached-end, reaches-next}
-use Rattle.lpt_stream.proofs.FollowLemmas.{follows-all, follows-next, right}
+use Rattle.lpt_stream.proofs.PieceLemmas.{begins_may, framed_fits, of_kind, whole}
+use Rattle.lpt_stream.proofs.BelievedLemmas.{awaited_few, awaited_unframed, fits_framed}
+use Rattle.lpt_stream.proofs.ReachLemmas.{leads-more, reached, reached-end, reaches-next}
 use Rattle.lpt_stream.proofs.StreamLemmas.{framed_packet}
 
 -- each is as many octets as its header says, and is believed
 abbrev AreBelieved : (l : ℕ) → List (List ℕ) → Type 0
 AreBelieved l [] = ⊤
-AreBelieved l (b ∷ bs) = IsFramed b × (length b ≤ l) × AreBelieved l bs
+AreBelieved l (b ∷ bs) =
+    IsFramed b × (length b ≤ l) × (is_too_short b ≡ false) × AreBelieved l bs
 
 believed_near : (l : ℕ) (near far : List (List ℕ)) (rest : List ℕ) → AreLed l (near ++ far) rest
     → AreBelieved l near
 believed_near l [] far rest h = tt
-believed_near l (b ∷ bs) far rest h = (h.0, h.1, believed_near l bs far rest h.3)
+believed_near l (b ∷ bs) far rest h = (h.0, h.1, h.2, believed_near l bs far rest h.4)
 
-fits_there : (l : ℕ) (b more : List ℕ) → IsFramed b → length b ≤ l → fits l (b ++ more) ≡ true
+pub fits_there : (l : ℕ) (b more : List ℕ) → IsFramed b → length b ≤ l → fits l (b ++ more) ≡ true
 fits_there l b more h short =
     let same = size b more h in
     let is : is_short l (b ++ more) ≡ true = grind (arith, same, short) in
     λ i. is i && framed b more h i
 
-some_there : (b more : List ℕ) → IsFramed b → (length (b ++ more) == 0) ≡ false
+-- and leads on, if it isn't too short
+leads_there : (l : ℕ) (b more : List ℕ) → IsFramed b → length b ≤ l → is_too_short b ≡ false
+    → leads l (b ++ more) ≡ true
+leads_there l b more h short long =
+    let fit : fits l b ≡ true = ap (fits l) (sym (append-nil b)) ∙ fits_there l b [] h short in
+    leads-more l b more (λ i. fit i && not (long i))
+
+third : (p q r : Bool) → (p && q && r) ≡ true → r ≡ true
+third true true r h = h
+third true false r h = absurd cc
+third false q r h = absurd cc
+
+-- a packet isn't
+packet_leads : (l : ℕ) (p more : List ℕ) (f : Fields) → IsPacket p f → length p ≤ l
+    → leads l (p ++ more) ≡ true
+packet_leads l p more f is short =
+    let fit = fits_there l p more (framed_packet p f is) short in
+    let may = begins_may (p ++ more) (packet_begins p more f is) in
+    let size = third (first_fits (p ++ more)) (flags_fit (p ++ more)) (size_fits (p ++ more)) may in
+    let room = framed_fits (p ++ more) (fits_framed l (p ++ more) fit) in
+    λ i. fit i && not (long_enough (p ++ more) (omega (arith, room)) size i)
+  where
+    long_enough : (b : List ℕ) → 6 ≤ length b
+        → (nat_lt (length b) 6 || not (word_at b 4 == 0)) ≡ true
+        → is_too_short b ≡ false
+    long_enough b head h = go (word_at b 4 == 0) refl where
+      few : nat_lt (length b) 6 ≡ false
+      few = grind (arith, head)
+
+      go : (t : Bool) → (word_at b 4 == 0) ≡ t → is_too_short b ≡ false
+      go false e = ap (λ t. t && not (word_at b 0 % 2048 == 2047)) e
+      go true e = absurd (let k = sym (λ i. few i || not (e i)) ∙ h in cc)
+
+pub some_there : (b more : List ℕ) → IsFramed b → (length (b ++ more) == 0) ≡ false
 some_there [] more h = let head = h.headed in absurd (omega (arith, head))
 some_there (x ∷ b) more h = eq_false (length (x ∷ b ++ more)) 0 (λ e. omega (arith, e))
 
@@ -75,7 +107,7 @@ led_there e l n c m most room counts (inr w) =
     let near : take m c ≡ p ++ more =
     ap (take m) w.5 ∙ take_past p w.1 m (let short = w.4 in omega (arith, short, room)) in
     ap (reaches e l (suc n)) near
-    ∙ reached e l n (p ++ more) (fits_there l p more packet w.4) (packet_begins p more w.2 w.3)
+    ∙ reached e l n (p ++ more) (packet_leads l p more w.2 w.3 w.4) (packet_begins p more w.2 w.3)
 
 -- over packets, one behind the other
 led : (e : Bool) (l n : ℕ) (bs : List (List ℕ)) (c : List ℕ) (m : ℕ)
@@ -93,10 +125,10 @@ led e l (suc n) (b ∷ bs) c m most h few room counts next =
     let sum = length-append b (all_octets bs) in
     let fit : length b ≤ m = omega (arith, room, sum) in
     let more = take (m - length b) (all_octets bs ++ c) in
-    let on = led e l n bs c (m - length b) most h.2 (omega (arith, few)) (omega (arith, room, sum))
+    let on = led e l n bs c (m - length b) most h.3 (omega (arith, few)) (omega (arith, room, sum))
     counts next in
     ap (reaches e l (suc n)) (front_near b bs c m fit)
-    ∙ reaches-next e l n (b ++ more) (fits_there l b more h.0 h.1)
+    ∙ reaches-next e l n (b ++ more) (leads_there l b more h.0 h.1 h.2)
     ∙ (λ i. begins false (b ++ more)
     || (ap (reaches e l n) (rest_is b more h.0) ∙ on) i)
     ∙ all (begins false (b ++ more)) where
@@ -245,12 +277,12 @@ lengths_lead l (b ∷ bs) rest h =
     subst (λ x. LeadsBy (Resumed l) true x (cut_whole (b ∷ bs)) true rest)
     (sym (append_assoc b (all_octets bs) rest)) (
       some b tail h.0,
-      piece_there l b bs rest h.0 h.1 h.3 h.2,
+      piece_there l b bs rest h.0 h.1 h.4 h.3,
       subst (λ (s : Bool).
           LeadsBy (Resumed l) s (drop (length b) (b ++ tail)) (cut_whole bs) true rest)
           (sym (stays (is_found true b)))
           (subst (λ x. LeadsBy (Resumed l) true x (cut_whole bs) true rest)
-          (sym (drop-append_seam b tail)) (lengths_lead l bs rest h.3)),
+          (sym (drop-append_seam b tail)) (lengths_lead l bs rest h.4)),
     ) where
       stays : (v : Bool) → keeps_step (if v then Whole else Damaged) ≡ true
       stays true = refl
@@ -275,122 +307,3 @@ cut_off_there l b h few =
   where
     lt_true : (n m : ℕ) → n < m → nat_lt n m ≡ true
     lt_true n m h = grind (arith, h)
-
--- ---- behind octets astray
-
--- each of them follows
-right_there : (l : ℕ) (b more : List ℕ) → IsRight l b → right l (b ++ more) ≡ true
-right_there l b more h =
-    λ i. fits_there l b more h.framed h.short i
-    && (ap ends_in_checksum (front b more h.framed) ∙ h.right) i
-
-run_follows : (l n left : ℕ) (bs : List (List ℕ)) (c : List ℕ)
-    → AreRight l bs
-    → length bs < n
-    → left ≤ length (all_octets bs)
-    → follows false l n left (all_octets bs ++ c) ≡ true
-run_follows l zero left bs c h few enough = absurd (omega (arith, few))
-run_follows l (suc n) left [] c h few enough =
-    follows-all false l n left c (grind (arith, enough))
-run_follows l (suc n) left (b ∷ bs) c h few enough =
-    go (left == 0) refl
-    (let sum = length-append b (all_octets bs) in
-    run_follows l n (left - length b) bs c h.1 (omega (arith, few)) (omega (arith, enough, sum)))
-  where
-    go : (t : Bool) → (left == 0) ≡ t
-        → follows false l n (left - length b) (all_octets bs ++ c) ≡ true
-        → follows false l (suc n) left (all_octets (b ∷ bs) ++ c) ≡ true
-    go true e next = follows-all false l n left (all_octets (b ∷ bs) ++ c) e
-    go false e next =
-        let more = all_octets bs ++ c in
-        ap (follows false l (suc n) left) (append_assoc b (all_octets bs) c)
-        ∙ follows-next false l n left (b ++ more) e (some_there b more h.0.framed)
-        ∙ (λ i. right_there l b more h.0 i
-        && follows false l n (left - size b more h.0.framed i) (rest_is b more h.0.framed i))
-        ∙ next
-
--- the first is found
-pub run_found : (l : ℕ) (p : List ℕ) (bs : List (List ℕ)) (rest : List ℕ) (f : Fields)
-    → IsPacket p f
-    → IsRun l (p ∷ bs)
-    → piece_by (Resumed l) false (all_octets (p ∷ bs) ++ rest) ≡ whole p
-run_found l p bs rest f packet h =
-    let b = all_octets (p ∷ bs) in
-    let sum = length-append p (all_octets bs) in
-    let framed = h.right.0.framed in
-    let near : take lookahead b ≡ b = take_all lookahead b h.close in
-    let run : follows false l most_in_row (suc l) b ≡ true =
-    sym (ap (follows false l most_in_row (suc l)) (append-nil b))
-    ∙ run_follows l most_in_row (suc l) (p ∷ bs) [] h.right h.few h.long in
-    packet_stays_by (Resumed l) false b rest (length p)
-    (ap (begins_by (Resumed l) false) near
-    ∙ (λ i. packet_begins p (all_octets bs) f packet i && run i))
-    (sym (ap (λ x. 7 + word_at x 4) near ∙ size p (all_octets bs) framed))
-    (omega (arith, sum, ap length near)) (omega (arith, sum))
-    ∙ ap whole (take-append_seam p (all_octets bs))
-
--- out of step nothing is passed over
-never_damaged : (a b : Bool) → (if a then Whole else if b then Whole else Stray) ≡ Damaged → ⊥
-never_damaged true b h = cc
-never_damaged false true h = cc
-never_damaged false false h = cc
-
-piece_is : (l : ℕ) (s : List ℕ) (k : PieceKind)
-    → kind_by (Resumed l) false (take lookahead s) ≡ k
-    → piece_by (Resumed l) false s ≡ of_kind k (take (size_in k (take lookahead s)) s)
-unfolding piece_by
-piece_is l s k h = ap (λ k. piece_of k (take lookahead s) s) h
-
--- behind any octets a packet is found, at the latest where one would be found without them
-pub found_by : (l : ℕ) (junk run packet : List ℕ)
-    → 0 < length run
-    → piece_by (Resumed l) false run ≡ whole packet
-    → IsFoundBy l (junk ++ run) (length junk)
-found_by l [] run packet some is = record {
-  strays = [];
-  packet = packet;
-  rest = drop (length packet) run;
-  early = omega arith;
-  leads = (some, sym is, (refl, refl));
-}
-found_by l (x ∷ junk) run packet some is =
-    go (kind_by (Resumed l) false (take lookahead (x ∷ (junk ++ run)))) refl
-    (found_by l junk run packet some is) where
-      go : (k : PieceKind)
-          → kind_by (Resumed l) false (take lookahead (x ∷ (junk ++ run))) ≡ k
-          → IsFoundBy l (junk ++ run) (length junk)
-          → IsFoundBy l (x ∷ (junk ++ run)) (length (x ∷ junk))
-      go Whole e next =
-          let n = size_in Whole (take lookahead (x ∷ (junk ++ run))) in
-          record {
-            strays = [];
-            packet = take n (x ∷ (junk ++ run));
-            rest = drop (length (take n (x ∷ (junk ++ run)))) (x ∷ (junk ++ run));
-            early = omega arith;
-            leads = (omega arith, sym (piece_is l (x ∷ (junk ++ run)) Whole e), (refl, refl));
-          }
-      go Damaged e next =
-          absurd (never_damaged
-          (begins_by (Resumed l) false (take lookahead (x ∷ (junk ++ run))))
-          (begins false (take lookahead (x ∷ (junk ++ run)))
-          && follows true l most_in_row (suc l) (take lookahead (x ∷ (junk ++ run)))) e)
-      go Stray e next =
-          let early = next.early in
-          record {
-            strays = of_kind Stray (x ∷ []) ∷ next.strays;
-            packet = next.packet;
-            rest = next.rest;
-            early = omega (arith, early);
-            leads = (omega arith, sym (piece_is l (x ∷ (junk ++ run)) Stray e), next.leads);
-          }
-
--- so it is in front of a run
-pub run_found_by : (l : ℕ) (junk p : List ℕ) (bs : List (List ℕ)) (rest : List ℕ) (f : Fields)
-    → IsPacket p f
-    → IsRun l (p ∷ bs)
-    → IsFoundBy l (junk ++ (all_octets (p ∷ bs) ++ rest)) (length junk)
-run_found_by l junk p bs rest f packet h =
-    let long = h.long in
-    let sum = length-append (all_octets (p ∷ bs)) rest in
-    found_by l junk (all_octets (p ∷ bs) ++ rest) p (omega (arith, long, sum))
-    (run_found l p bs rest f packet h)

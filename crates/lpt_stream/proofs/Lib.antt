@@ -13,6 +13,7 @@ pub mod LengthLemmas
 pub mod PieceLemmas
 pub mod ReachLemmas
 pub mod ResumeLemmas
+pub mod RunLemmas
 pub mod SealLemmas
 pub mod StrayLemmas
 pub mod StreamLemmas

@@ -3,7 +3,7 @@ use Rattle.std.specs.Prelude.{◌≡◌, ◌⊎◌, ℕ, ◌+◌, ◌<◌, ◌�
 use Rattle.lpt_packet.specs.Packets.{Fields, IsPacket}
 use Rattle.lpt_stream.specs.declared.cut.Cut.TheVariants.{Resumed}
 use Rattle.lpt_stream.specs.declared.piece_kind.PieceKind.TheVariants.{Whole, Damaged}
-use Rattle.lpt_stream.specs.Pieces.{LeadsBy, Piece, ends_in_checksum, is_awaited, is_found, lookahead, most_damaged, most_in_row, octets_in}
+use Rattle.lpt_stream.specs.Pieces.{LeadsBy, Piece, ends_in_checksum, is_awaited, is_found, is_too_short, lookahead, most_damaged, most_in_row, octets_in}
 use Rattle.lpt_stream.specs.Streams.{IsFramed, all_octets}
 
 -- nothing comes, or less than a packet, or a packet stands in front; none is longer than the
@@ -25,12 +25,12 @@ pub record IsFollowed (l : ℕ) (b : List ℕ) (others : List (List ℕ)) (rest 
   pub close : length b + (length (all_octets near) + l) ≤ lookahead
   pub next : IsEndOrNext l (all_octets far ++ rest)
 
--- each is as many octets as its header says, and no more than the longest, and is found in step, or
--- followed so
+-- each is as many octets as its header says, no more than the longest and, unless it says that it is
+-- idle, no fewer than eight; and it is found in step, or followed so
 abbrev pub AreLed : (longest : ℕ) → List (List ℕ) → (rest : List ℕ) → Type 0
 AreLed l [] rest = ⊤
 AreLed l (b ∷ bs) rest =
-    IsFramed b × (length b ≤ l)
+    IsFramed b × (length b ≤ l) × (is_too_short b ≡ false)
     × (((is_found true b ≡ true) × (length b ≤ lookahead)) ⊎ IsFollowed l b bs rest)
     × AreLed l bs rest
 

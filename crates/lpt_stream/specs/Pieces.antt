@@ -111,6 +111,15 @@ begins_by Framed s b = s && (is_version b && is_framed b)
 begins_by (Resumed l) true b = is_short l b && begins true b
 begins_by (Resumed l) false b = begins false b && follows false l most_in_row (suc l) b
 
+-- whether a header says seven octets, and not that they are an idle packet: only that has no
+-- checksum, and zeros that are read as a header say seven
+abbrev pub is_too_short : List ℕ → Bool
+is_too_short b = (word_at b 4 == 0) && not (word_at b 0 % 2048 == 2047)
+
+-- whether what stands here leads on by its length
+abbrev pub leads : (longest : ℕ) → List ℕ → Bool
+leads l b = fits l b && not (is_too_short b)
+
 -- over at most so many packets in a row is looked on, if only their lengths are believed
 abbrev pub most_damaged : ℕ
 most_damaged = 256
@@ -121,7 +130,7 @@ most_damaged = 256
 unfoldable pub reaches : (end_counts : Bool) → (longest n : ℕ) → List ℕ → Bool
 reaches e l zero b = false
 reaches e l (suc n) b =
-    (e && is_awaited l b) || (fits l b && (begins false b || reaches e l n (behind b)))
+    (e && is_awaited l b) || (leads l b && (begins false b || reaches e l n (behind b)))
 
 -- whether what is looked at is all that stands before the stream's end
 abbrev pub is_all : List ℕ → Bool
@@ -206,7 +215,7 @@ waits s b =
 unfoldable pub reach_waits : (longest n : ℕ) → List ℕ → Bool
 reach_waits l zero b = false
 reach_waits l (suc n) b =
-    if fits l b then not (begins false b) && reach_waits l n (behind b) else is_awaited l b
+    if leads l b then not (begins false b) && reach_waits l n (behind b) else is_awaited l b
 
 -- whether it depends on them, in step, if lengths are believed: if not as many have come as the
 -- header says, and if as many have, until it is known where lengths lead

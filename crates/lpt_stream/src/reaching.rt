@@ -2,10 +2,11 @@
 
 ghost use Rattle.std.specs.Prelude.{◌≡◌, ◌+◌, ◌≤◌, ◌==◌, ◌&&◌, suc, length, true, false, None, IfSome};
 ghost use Rattle.lpt_packet.specs.Numbers.{word_at};
-ghost use Rattle.lpt_stream.specs.Pieces.{ends_in_checksum, fits, follow_waits, follows, frame, is_awaited, most_damaged, most_in_row, reach_waits, reaches};
+ghost use Rattle.lpt_stream.specs.Pieces.{ends_in_checksum, fits, follow_waits, follows, frame, is_awaited, is_too_short, leads, most_damaged, most_in_row, reach_waits, reaches};
 
 use crate::cutting::{packet_length, whole_length};
 use crate::found::{begins_again, ends_in_checksum};
+use crate::waiting::word;
 
 // Over at most so many packets in a row is looked on, if only their lengths are believed.
 const MOST_DAMAGED: usize = 256;
@@ -20,7 +21,7 @@ pub(crate) fn reaches(end_counts: bool, longest: usize, bytes: &[u8]) -> bool
     let mut at = 0;
     for count in 0..MOST_DAMAGED {
         let rest = &bytes[at..];
-        let Some(len) = believed_length(longest, rest) else {
+        let Some(len) = leading_length(longest, rest) else {
             return ends_within(end_counts, longest, rest);
         };
         if begins_again(rest) {
@@ -45,7 +46,7 @@ pub(crate) fn reach_waits(longest: usize, bytes: &[u8]) -> bool
     let mut at = 0;
     for count in 0..MOST_DAMAGED {
         let rest = &bytes[at..];
-        let Some(len) = believed_length(longest, rest) else {
+        let Some(len) = leading_length(longest, rest) else {
             return is_awaited(longest, rest);
         };
         if begins_again(rest) {
@@ -118,7 +119,26 @@ pub(crate) fn believed_length(longest: usize, bytes: &[u8]) -> Option<usize>
     if len <= longest { Some(len) } else { None }
 }
 
-// The same, if its checksum is right too.
+// The same, if it leads on: seven octets do if they are an idle packet.
+fn leading_length(longest: usize, bytes: &[u8]) -> Option<usize>
+    ensures some { IfSome result (λ n. (leads longest bytes.now ≡ true)
+        × (n ≡ 7 + word_at bytes.now 4)
+        × (n ≤ length bytes.now)) }
+    ensures none { result ≡ None → leads longest bytes.now ≡ false }
+{
+    let len = believed_length(longest, bytes)?;
+    if is_too_short(bytes) { None } else { Some(len) }
+}
+
+// Whether a header says seven octets, and not that they are an idle packet.
+fn is_too_short(bytes: &[u8]) -> bool
+    requires { 6 ≤ length bytes.now }
+    ensures { result ≡ is_too_short bytes.now }
+{
+    word(bytes, 4) == 0 && word(bytes, 0) & 0x07ff != 0x07ff
+}
+
+// How many octets a packet that is believed has, if its checksum is right too.
 fn right_length(longest: usize, bytes: &[u8]) -> Option<usize>
     ensures some { IfSome result (λ n.
         ((fits longest bytes.now && ends_in_checksum (frame bytes.now)) ≡ true)

@@ -111,7 +111,7 @@ fn size_fits(bytes: &[u8]) -> bool
 }
 
 // The word at a place.
-fn word(bytes: &[u8], at: usize) -> u16
+pub(crate) fn word(bytes: &[u8], at: usize) -> u16
     requires { at + 1 < length bytes.now }
     ensures { result ≡ word_at bytes.now at }
 {

@@ -1,4 +1,4 @@
-use Rattle.lpt_stream.proofs.LengthLemmas.{run_found, run_found_by}
+use Rattle.lpt_stream.proofs.RunLemmas.{run_found, run_found_by}
 use Rattle.lpt_stream.proofs.laws.runs_are_found.Goals as goal
 
 pub returns : goal.returns
