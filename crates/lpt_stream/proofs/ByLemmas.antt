@@ -85,12 +85,6 @@ judged_stays_by Sealed s b more framed none few = judged_stays s b more framed n
 judged_stays_by Framed s b more framed none few = judged_frame s b more framed none few
 judged_stays_by (Resumed l) s b more framed none few = absurd cc
 
--- out of step none begins where none does by checksums
-pub none_out : (c : Cut) (b : List ℕ) → begins false b ≡ false → begins_by c false b ≡ false
-none_out Sealed b h = h
-none_out Framed b h = refl
-none_out (Resumed l) b h = ap (λ t. t && follows false l most_in_row (suc l) b) h
-
 -- nothing shows what comes
 pub nothing_shows : (c : Cut) (s : Bool) → waits_by c s [] ≡ true
 nothing_shows Sealed true = refl

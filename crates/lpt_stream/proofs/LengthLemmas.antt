@@ -1,5 +1,8 @@
 -- While lengths are intact, nothing inside a packet is taken for one.
-use Rattle.std.proofs.Common.{◌≡◌, ◌⊎◌, ◌∙◌, ap, sym, subst, refl, inl, inr, ℕ, zero, suc, ◌+◌, ◌-◌, ◌<◌, ◌≤◌, ◌==◌, nat_le, nat_lt, ◌%◌, Bool, true, false, not, ◌&&◌, ◌||◌, if◌then◌else◌, List, [], ◌∷◌, ◌++◌, length, take, drop, arith, append-nil, append_assoc, length-append, length-take, take_all}
+use Rattle.std.proofs.Common.{◌≡◌, ◌⊎◌, ◌∙◌, ap, sym, subst, refl, inl, inr, ℕ, zero, suc, ◌+◌, ◌-◌}
+use Rattle.std.proofs.Common.{◌<◌, ◌≤◌, ◌==◌, nat_le, nat_lt, ◌%◌, Bool, true, false, not, ◌&&◌}
+use Rattle.std.proofs.Common.{◌||◌, if◌then◌else◌, List, [], ◌∷◌, ◌++◌, length, take, drop, arith}
+use Rattle.std.proofs.Common.{append-nil, append_assoc, length-append, length-take, take_all}
 use Rattle.std.specs.Prelude.{⊤}
 use Rattle.std.proofs.Math.Seq.{drop-append_seam, take-append_seam}
 use Rattle.lpt_packet.specs.Numbers.{word_at}
@@ -8,10 +11,15 @@ use Rattle.lpt_packet.proofs.Readings.{eq_false}
 use Rattle.lpt_stream.specs.declared.cut.Cut.TheVariants.{Resumed}
 use Rattle.lpt_stream.specs.declared.piece_kind.PieceKind.TheVariants.{Whole, Damaged, Stray}
 use Rattle.lpt_stream.specs.Lengths.{AreLed, IsEndOrNext, IsFollowed, cut_whole}
-use Rattle.lpt_stream.specs.Pieces.{LeadsBy, Piece, begins, begins_by, first_fits, fits, flags_fit, frame, is_all, is_awaited, is_cut_off, is_found, is_framed, is_short, is_too_short, keeps_step, leads, kind_by, lookahead, most_damaged, passes_by, piece_by, piece_of, reaches, size_fits, size_in}
+use Rattle.lpt_stream.specs.Pieces.{LeadsBy, Piece, begins, begins_by, first_fits, fits, flags_fit}
+use Rattle.lpt_stream.specs.Pieces.{frame, is_all, is_awaited, is_cut_off, is_found, is_framed}
+use Rattle.lpt_stream.specs.Pieces.{is_short, is_too_short, keeps_step, leads, kind_by, lookahead}
+use Rattle.lpt_stream.specs.Pieces.{most_damaged, passes_by, piece_by, piece_of, reaches, size_fits}
+use Rattle.lpt_stream.specs.Pieces.{size_in}
 use Rattle.lpt_stream.specs.Streams.{IsFramed, all_octets}
 use Rattle.lpt_stream.proofs.ByLemmas.{cut_stays_by, packet_stays_by, unframed_kind}
-use Rattle.lpt_stream.proofs.DamageLemmas.{framed, front, packet_begins, rest_is, size, some, take_past}
+use Rattle.lpt_stream.proofs.DamageLemmas.{framed, front, packet_begins, rest_is, size, some}
+use Rattle.lpt_stream.proofs.DamageLemmas.{take_past}
 use Rattle.lpt_stream.proofs.PieceLemmas.{begins_may, framed_fits, of_kind, whole}
 use Rattle.lpt_stream.proofs.BelievedLemmas.{awaited_few, awaited_unframed, fits_framed}
 use Rattle.lpt_stream.proofs.ReachLemmas.{leads-more, reached, reached-end, reaches-next}

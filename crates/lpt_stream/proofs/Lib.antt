@@ -1,3 +1,4 @@
+pub mod AstrayLemmas
 pub mod BelievedLemmas
 pub mod BufferLemmas
 pub mod ByLemmas

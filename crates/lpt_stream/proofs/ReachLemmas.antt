@@ -1,9 +1,14 @@
 -- Where lengths lead, whatever else of packets is damaged.
-use Rattle.std.proofs.Common.{◌≡◌, ◌∙◌, ap, sym, refl, ℕ, zero, suc, ◌+◌, ◌-◌, ◌<◌, ◌≤◌, Bool, true, false, not, ◌&&◌, ◌||◌, if◌then◌else◌, ◌*◌, ◌==◌, ◌%◌, List, ◌++◌, length, drop, arith}
+use Rattle.std.proofs.Common.{◌≡◌, ◌∙◌, ap, sym, refl, ℕ, zero, suc, ◌+◌, ◌-◌, ◌<◌, ◌≤◌, Bool, true}
+use Rattle.std.proofs.Common.{false, not, ◌&&◌, ◌||◌, if◌then◌else◌, ◌*◌, ◌==◌, ◌%◌, List, ◌++◌}
+use Rattle.std.proofs.Common.{length, drop, arith}
 use Rattle.std.proofs.lemmas.List.{drop-drop, get_or_append_left}
 use Rattle.lpt_packet.specs.Numbers.{word_at}
-use Rattle.lpt_stream.specs.Pieces.{begins, behind, fits, is_awaited, is_framed, is_too_short, leads, reach_waits, reaches}
-use Rattle.lpt_stream.proofs.BelievedLemmas.{and_both, behind-more, begins-more, fits_framed, fits-more, unfit-more, framed_unawaited, unawaited-more}
+use Rattle.lpt_stream.specs.Pieces.{begins, behind, fits, is_awaited, is_framed, is_too_short}
+use Rattle.lpt_stream.specs.Pieces.{leads, reach_waits, reaches}
+use Rattle.lpt_stream.proofs.BelievedLemmas.{and_both, behind-more, begins-more, fits_framed}
+use Rattle.lpt_stream.proofs.BelievedLemmas.{fits-more, unfit-more, framed_unawaited}
+use Rattle.lpt_stream.proofs.BelievedLemmas.{unawaited-more}
 use Rattle.lpt_stream.proofs.PieceLemmas.{framed_fits}
 use Rattle.lpt_stream.proofs.StreamLemmas.{word_at-front}
 

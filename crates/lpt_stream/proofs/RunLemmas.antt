@@ -1,5 +1,7 @@
 -- Where right packets follow one another for more octets than the longest has, one is found.
-use Rattle.std.proofs.Common.{◌≡◌, ◌∙◌, ap, sym, refl, ℕ, zero, suc, ◌+◌, ◌-◌, ◌<◌, ◌≤◌, ◌==◌, Bool, true, false, ◌&&◌, if◌then◌else◌, List, [], ◌∷◌, ◌++◌, length, take, drop, arith, append-nil, append_assoc, length-append, take_all}
+use Rattle.std.proofs.Common.{◌≡◌, ◌∙◌, ap, sym, refl, ℕ, zero, suc, ◌+◌, ◌-◌, ◌<◌, ◌≤◌, ◌==◌, Bool}
+use Rattle.std.proofs.Common.{true, false, ◌&&◌, if◌then◌else◌, List, [], ◌∷◌, ◌++◌, length, take}
+use Rattle.std.proofs.Common.{drop, arith, append-nil, append_assoc, length-append, take_all}
 use Rattle.std.proofs.Math.Seq.{take-append_seam}
 use Rattle.lpt_packet.specs.Numbers.{word_at}
 use Rattle.lpt_packet.specs.Packets.{Fields, IsPacket}
@@ -7,7 +9,8 @@ use Rattle.lpt_stream.specs.declared.cut.Cut.TheVariants.{Resumed}
 use Rattle.lpt_stream.specs.declared.piece_kind.PieceKind.{PieceKind}
 use Rattle.lpt_stream.specs.declared.piece_kind.PieceKind.TheVariants.{Whole, Damaged, Stray}
 use Rattle.lpt_stream.specs.Lengths.{AreRight, IsFoundBy, IsRight, IsRun}
-use Rattle.lpt_stream.specs.Pieces.{begins, begins_by, ends_in_checksum, follows, kind_by, lookahead, most_in_row, piece_by, piece_of, size_in}
+use Rattle.lpt_stream.specs.Pieces.{begins, begins_by, ends_in_checksum, follows, kind_by}
+use Rattle.lpt_stream.specs.Pieces.{lookahead, most_in_row, piece_by, piece_of, size_in}
 use Rattle.lpt_stream.specs.Streams.{all_octets}
 use Rattle.lpt_stream.proofs.ByLemmas.{packet_stays_by}
 use Rattle.lpt_stream.proofs.DamageLemmas.{front, packet_begins, rest_is, size, some}

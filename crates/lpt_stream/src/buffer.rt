@@ -51,6 +51,7 @@ impl PacketBuffer {
     ghost use Rattle.std.specs.Io.KnownBytes.{Keeps};
     ghost use Rattle.lpt_text.specs.Streams.{WriteEnds};
     ghost use Rattle.lpt_stream.specs.Buffers.{cut_of, octets_held, is_ended, is_in_step, octets_kept, Fills, FindsPassing, IsInFront, IsUnsettled};
+    ghost use Rattle.lpt_stream.specs.declared.piece_kind.PieceKind.TheVariants.{Stray};
     ghost use Rattle.lpt_stream.specs.Pieces.{begins_by, keeps_step, lookahead, stays_judged, waits_by};
 
     /// A stream of which nothing was read.
@@ -127,7 +128,13 @@ impl PacketBuffer {
             (source.new ≡ source.old) ⊎ (K.flushed out.new ≡ K.contents out.new) }
         ensures writer { WriteEnds result (K.failed out.old) (K.failed out.new) }
     {
-        let mut is_judged = self.shows_none();
+        if self.shows_none() {
+            return Ok(Some(Found {
+                kind: PieceKind::Stray,
+                len: 1,
+            }));
+        }
+        let mut is_judged = false;
         loop {
             match self.piece_settled(is_judged) {
                 Some(found) => return Ok(Some(found)),
@@ -177,12 +184,11 @@ impl PacketBuffer {
     }
 
     // Whether it shows already, behind octets that are no packet, that none begins in front: the
-    // checksum of what a header there announces is wrong.
+    // checksum of what a header there announces is wrong. However long that is, this takes a few
+    // steps.
     fn shows_none(&mut self) -> bool
-        ensures none { result ≡ true
-            → begins_by (cut_of self.new) (is_in_step self.new)
-            (take lookahead (octets_held self.new))
-            ≡ false }
+        ensures stray { result ≡ true
+            → IsInFront self.new (record { kind = Stray; len = 1 }) }
         ensures held { octets_held self.new ≡ octets_held self.old }
         ensures cut { cut_of self.new ≡ cut_of self.old }
         ensures step { is_in_step self.new ≡ is_in_step self.old }

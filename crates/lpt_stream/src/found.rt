@@ -4,7 +4,7 @@ ghost use Rattle.std.specs.Prelude.{◌≡◌, ◌≢◌, ◌+◌, ◌<◌, ◌�
 ghost use Rattle.lpt_packet.specs.Checksums.{checksum};
 ghost use Rattle.lpt_packet.specs.Numbers.{word_at};
 ghost use Rattle.lpt_packet.specs.Sizes.{longest_packet};
-ghost use Rattle.lpt_stream.specs.Pieces.{begins, begins_by, ends_in_checksum, is_all, is_cut_off, is_found, is_framed, is_of_flags, is_version, kind_by, len_by, other_by, passes_by};
+ghost use Rattle.lpt_stream.specs.Pieces.{begins, begins_by, ends_in_checksum, frame, is_all, is_cut_off, is_found, is_framed, is_of_flags, is_version, kind_by, len_by, other_by, passes_by};
 ghost use Rattle.lpt_stream.specs.declared.cut.Cut.TheVariants.{Resumed};
 ghost use Rattle.lpt_stream.specs.declared.piece_kind.PieceKind.TheVariants.{Whole, Stray};
 
@@ -149,6 +149,9 @@ pub(crate) fn length_announced(bytes: &[u8]) -> Option<usize>
     ensures short { IfSome result (λ n. n ≤ longest_packet) }
     ensures none { IfSome result (λ n. checksum (take n bytes.now) ≢ 0
         → begins false bytes.now ≡ false) }
+    ensures len { IfSome result (λ n. n ≡ 7 + word_at bytes.now 4) }
+    ensures wrong { IfSome result (λ n. checksum (take n bytes.now) ≢ 0
+        → ends_in_checksum (frame bytes.now) ≡ false) }
 {
     let len = whole_length(bytes)?;
     if may_begin(bytes) { Some(len) } else { None }

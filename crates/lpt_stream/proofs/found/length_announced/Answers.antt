@@ -3,6 +3,7 @@ use Rattle.std.proofs.Common.{◌≡◌, ◌∙◌, ◌+◌, ap, take, arith}
 use Rattle.std.proofs.lemmas.Grind.{common_steps}
 use Rattle.lpt_packet.specs.Checksums.{checksum}
 use Rattle.lpt_packet.specs.Numbers.{IsOctets, word_at}
+use Rattle.lpt_stream.proofs.AstrayLemmas.{unsealed}
 use Rattle.lpt_stream.proofs.PieceLemmas.{nonzero_begins}
 use Rattle.lpt_stream.proofs.found.length_announced.Goals as goal
 
@@ -12,3 +13,10 @@ returns-then-may_begin-clause-none c = λ other.
     let octets : IsOctets b = λ i. omega (arith, c.type_inv.bytes i) in
     let size : c.in_ok-len.len ≡ 7 + word_at b 4 = grind (arith, common_steps) in
     nonzero_begins b octets (λ zero. other (ap (λ n. checksum (take n b)) size ∙ zero))
+
+pub returns-then-may_begin-clause-wrong : goal.returns-then-may_begin-clause-wrong
+returns-then-may_begin-clause-wrong c = λ other.
+    let b = c.args.bytes.now in
+    let octets : IsOctets b = λ i. omega (arith, c.type_inv.bytes i) in
+    let size : c.in_ok-len.len ≡ 7 + word_at b 4 = grind (arith, common_steps) in
+    unsealed b octets (λ zero. other (ap (λ n. checksum (take n b)) size ∙ zero))

@@ -4,17 +4,30 @@ use Rattle.std.proofs.KnownBytes.{Keeps-refl, Keeps-trans}
 use Rattle.lpt_stream.proofs.BufferLemmas.{goes-same, goes-more, nearer, asked-more, judged-more, fill-fault, passing-fault}
 use Rattle.lpt_stream.proofs.buffer.PacketBuffer.find_piece_passing.Goals as goal
 
+-- an octet astray shows at once
+pub returns-then-shows_none-clause-finds : goal.returns-then-shows_none-clause-finds
+returns-then-shows_none-clause-finds g c = (
+  [],
+  goes-same c.args.self.now c.shows_none.new.self
+      (g.P.Peer.remaining c.args.source.now) c.shows_none.ensures.held c.shows_none.ensures.cut
+      c.shows_none.ensures.step
+      c.shows_none.ensures.end,
+  c.shows_none.ensures.stray c.if-shows_none.true,
+  refl,
+  inl refl,
+)
+
 pub loop-found-init : goal.loop-found-init
 loop-found-init g c = record {
   goes = (
     [],
-    goes-same c.args.self.now c.shows_none-is_judged.new.self
-        (g.P.Peer.remaining c.args.source.now) c.shows_none-is_judged.ensures.held
-        c.shows_none-is_judged.ensures.cut c.shows_none-is_judged.ensures.step
-        c.shows_none-is_judged.ensures.end,
+    goes-same c.args.self.now c.shows_none.new.self
+        (g.P.Peer.remaining c.args.source.now) c.shows_none.ensures.held
+        c.shows_none.ensures.cut c.shows_none.ensures.step
+        c.shows_none.ensures.end,
     inl refl,
   );
-  judged = c.shows_none-is_judged.ensures.none;
+  judged = λ e. absurd cc;
   told = refl;
   same = Keeps-refl (g.K.Sink.contents c.args.out.now);
   passed = inl refl;

@@ -1,10 +1,8 @@
--- What is known of the octets that are held rules a packet out.
-use Rattle.std.proofs.Common.{◌∙◌, ◌-◌, ap, sym, subst, take, drop}
+-- What is known of the octets that are held shows an octet astray.
+use Rattle.std.proofs.Common.{◌-◌, sym, subst, take, drop}
 use Rattle.lpt_search.specs.Searches.{Knows}
-use Rattle.lpt_stream.specs.Buffers.{cut_of, octets_held}
-use Rattle.lpt_stream.specs.Pieces.{begins_by, lookahead}
-use Rattle.lpt_stream.proofs.ByLemmas.{none_out}
-use Rattle.lpt_stream.proofs.KnownLemmas.{none_shown, sliced}
+use Rattle.lpt_stream.proofs.AstrayLemmas.{astray_shown}
+use Rattle.lpt_stream.proofs.KnownLemmas.{sliced}
 use Rattle.lpt_stream.proofs.buffer.PacketBuffer.shows_none.Goals as goal
 
 pub may_fit-requires-clause-knows : goal.may_fit-requires-clause-knows
@@ -21,13 +19,12 @@ invariant_of-self-clause-known c =
     (sliced b.start b.end b.octets.items c.deref.result.now b.ordered c.deref.ensures.value)
     c.may_fit.ensures.knows
 
-pub returns-in-Some-clause-none : goal.returns-in-Some-clause-none
-returns-in-Some-clause-none c = λ shown.
+pub returns-in-Some-clause-stray : goal.returns-in-Some-clause-stray
+returns-in-Some-clause-stray c = λ shown.
     let b = c.args.self.now in
-    ap (λ s. begins_by (cut_of b) s (take lookahead (octets_held b))) c.if-self.false
-    ∙ none_out (cut_of b) (take lookahead (octets_held b))
-    (none_shown (octets_held b) (take (b.end - b.start) (drop b.start c.deref.result.now))
-    c.min.result
-    c.in-Some.len c.may_fit.result
+    let h = astray_shown b (take (b.end - b.start) (drop b.start c.deref.result.now))
+    c.min.result c.in-Some.len c.may_fit.result
     (sliced b.start b.end b.octets.items c.deref.result.now b.ordered c.deref.ensures.value)
-    c.min.ensures c.in-Some.ensures.within c.in-Some.ensures.none c.may_fit.ensures.never shown)
+    c.if-self.false c.min.ensures c.in-Some.ensures.within c.in-Some.ensures.len
+    c.in-Some.ensures.none c.in-Some.ensures.wrong c.may_fit.ensures.never shown in
+    record { some = h.some; least = h.least; most = h.most; within = h.within; is = h.is }
