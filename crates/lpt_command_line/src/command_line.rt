@@ -3,9 +3,9 @@
 use crate::building::program;
 use crate::compare_words::{ChecksumWords, CompareWords, checksum_command, compare_command};
 use crate::extract_words::{ExtractWords, extract_command};
-use crate::file_words::{JoinWords, ListWords, STANDARD, check_order, join_command, list_command};
+use crate::file_words::{JoinWords, ListWords, STANDARD, join_command, list_command};
 use crate::ground_words::{GroundWords, ground_command};
-use crate::layout_words::{DecodeWords, decode_command, layout_in};
+use crate::layout_words::{DecodeWords, decode_command};
 use crate::link_words::{LinkWords, link_command};
 use crate::pass_words::{PassWords, pass_command};
 use crate::request_words::{RequestWords, request_command};
@@ -19,14 +19,13 @@ use clap::{ArgMatches, Error};
 use std::alloc::{AllocError, Global};
 
 /// The options that name a file or a folder, and what help calls them.
-const PATHS: [(&str, &str); 9] = [
+const PATHS: [(&str, &str); 8] = [
     ("config", "--config <FILE>"),
     ("layout", "--layout <FILE>"),
     ("to", "--to <FILE>"),
     ("each", "--each <DIR>"),
     ("up", "--up <FIFO>"),
     ("job", "--job <FILE>"),
-    ("chart", "--chart <FILE>"),
     ("passes", "--passes <FILE>"),
     ("state", "--state <FILE>"),
 ];
@@ -45,16 +44,12 @@ pub struct CommandLine<'a> {
 /// A command of the program.
 #[derive(Drop)]
 pub enum Command<'a> {
-    /// `run SCRIPT`: the script's path, or `-` for standard input.
-    Run(&'a str),
+    /// `run SCRIPT`.
+    Run(RunWords<'a>),
     /// `threads SCRIPT`: the script's path, or `-` for standard input.
     Threads(&'a str),
-    /// `shell`.
-    Shell,
     /// `lint SCRIPT`: the script's path, or `-` for standard input.
     Lint(&'a str),
-    /// `chart FILE`.
-    Chart(ChartWords<'a>),
     /// `decode HEX`.
     Decode(DecodeWords<'a>),
     /// `list [FILE]..`.
@@ -87,22 +82,13 @@ pub enum Command<'a> {
     Checksum(ChecksumWords<'a>),
 }
 
-/// What `chart` asks for.
+/// What `run` asks for.
 #[derive(Clone, Copy)]
-pub struct ChartWords<'a> {
-    /// The path of the script or of the packets, or `-` for standard input.
+pub struct RunWords<'a> {
+    /// The path of the script, or `-` for standard input.
     pub script: &'a str,
-    /// Whether packets stand there.
-    pub stream: bool,
-    /// Begin at this event of the run, or at this octet of the packets, if one is given.
-    pub from: Option<u64>,
-    /// The last place of the journal that is drawn, or the first of the octets that isn't, if
-    /// one is given.
-    pub to: Option<u64>,
-    /// Whether the lines that were refused are drawn.
-    pub refused: bool,
-    /// The path of the packets' layouts, if one is given.
-    pub layout: Option<&'a str>,
+    /// Whether its lines may ask for what both nodes have now.
+    pub views: bool,
 }
 
 /// Why the words ask for nothing that is to be done.
@@ -199,8 +185,6 @@ fn command_of<'a>(
 ) -> Result<Command<'a>, WordFault<'a>> {
     match name {
         "run" | "threads" | "lint" => script_command(name, words),
-        "shell" => Ok(Command::Shell),
-        "chart" => chart_command(words),
         "list" => list_command(alloc, words),
         "join" if words.get_str("layout").is_some() => join_layout_command(alloc, words),
         "split" if words.get_flag("each") => split_each_command(alloc, words),
@@ -224,33 +208,11 @@ fn script_command<'a>(name: &str, words: &ArgMatches<'a>) -> Result<Command<'a>,
         return Err(WordFault::Missing);
     };
     Ok(match name {
-        "run" => Command::Run(script),
+        "run" => Command::Run(RunWords {
+            script,
+            views: words.get_flag("views"),
+        }),
         "threads" => Command::Threads(script),
         _ => Command::Lint(script),
     })
-}
-
-// What the words of `chart` ask for.
-//
-// Errors: `Missing`, `Beside`, `Wanted`, `Order`.
-fn chart_command<'a>(words: &ArgMatches<'a>) -> Result<Command<'a>, WordFault<'a>> {
-    let Some(script) = words.get_str("FILE") else {
-        return Err(WordFault::Missing);
-    };
-    let chart = ChartWords {
-        script,
-        stream: words.get_flag("stream"),
-        from: words.get_one("from"),
-        to: words.get_one("to"),
-        refused: words.get_flag("refused"),
-        layout: layout_in(words),
-    };
-    match (chart.stream, chart.refused, chart.layout) {
-        (true, true, _) => Err(WordFault::Beside("--stream", "--refused")),
-        (false, _, Some(_)) => Err(WordFault::Wanted("--stream")),
-        _ => {
-            check_order(chart.from, chart.to)?;
-            Ok(Command::Chart(chart))
-        }
-    }
 }

@@ -84,7 +84,14 @@ pub(crate) static RUN: CommandRow = CommandRow {
     name: "run",
     about: "Run a script of the simulator",
     words: &[SCRIPT],
-    named: &[],
+    named: &[NamedRow {
+        name: "views",
+        value: ValueParser::Bool,
+        behind: &[],
+        action: ArgAction::SetTrue,
+        other: &[],
+        help: "Let the script also show link, senders, receptions and jobs",
+    }],
     configured: Configured::Nodes,
 };
 
@@ -97,15 +104,6 @@ pub(crate) static THREADS: CommandRow = CommandRow {
     configured: Configured::Nodes,
 };
 
-/// `shell`.
-pub(crate) static SHELL: CommandRow = CommandRow {
-    name: "shell",
-    about: "Run a script's lines as you type them",
-    words: &[],
-    named: &[],
-    configured: Configured::Nodes,
-};
-
 /// `lint`.
 pub(crate) static LINT: CommandRow = CommandRow {
     name: "lint",
@@ -113,56 +111,6 @@ pub(crate) static LINT: CommandRow = CommandRow {
     words: &[SCRIPT],
     named: &[],
     configured: Configured::No,
-};
-
-/// `chart`.
-pub(crate) static CHART: CommandRow = CommandRow {
-    name: "chart",
-    about: "Draw a script's run, or a file of packets, as an SVG picture",
-    words: &[Word {
-        name: "FILE",
-        help: "The script, or the packets if --stream is given; - for standard input",
-        ..SCRIPT
-    }],
-    named: &[
-        NamedRow {
-            name: "stream",
-            value: ValueParser::Bool,
-            behind: &[],
-            action: ArgAction::SetTrue,
-            other: &[],
-            help: "Draw packets instead of a script, a row for each transaction",
-        },
-        NamedRow {
-            name: "from",
-            value: U64,
-            behind: &["N"],
-            action: ArgAction::Set,
-            other: &[],
-            help: "Begin at this event of the run, or at this octet of the packets",
-        },
-        NamedRow {
-            name: "to",
-            value: U64,
-            behind: &["N"],
-            action: ArgAction::Set,
-            other: &[],
-            help: "End with this event of the run, or before this octet of the packets",
-        },
-        NamedRow {
-            name: "refused",
-            value: ValueParser::Bool,
-            behind: &[],
-            action: ArgAction::SetTrue,
-            other: &[],
-            help: "Draw refused lines too; not with --stream",
-        },
-        NamedRow {
-            help: "A TOML file with the mission's layouts of headers and parts; only with --stream",
-            ..LAYOUT
-        },
-    ],
-    configured: Configured::Nodes,
 };
 
 /// `decode`.
@@ -298,6 +246,11 @@ pub(crate) static JOIN: CommandRow = CommandRow {
             action: ArgAction::Set,
             other: &[],
             help: "Write each message to a file of its own in this folder; not with --id or --first",
+        },
+        NamedRow {
+            help: "Print a JSON object for each message, with where it is in the packets; only \
+                   with --each",
+            ..JSON
         },
         FROM,
         TO,

@@ -46,6 +46,8 @@ pub struct JoinWords<'a> {
     pub first: bool,
     /// The folder into which every message is written, if one is given.
     pub each: Option<&'a str>,
+    /// Whether a line of JSON says where each of them is.
+    pub json: bool,
     /// Which octets of the packets are read.
     pub span: Span,
 }
@@ -85,7 +87,7 @@ pub(crate) fn list_in<'a>(matches: &ArgMatches<'a>) -> Result<&'a str, WordFault
 
 // The folder into which every message is written, if that is asked for, and no message is named.
 //
-// Errors: `Beside`.
+// Errors: `Beside`; `Wanted` if it isn't, but a line for each is.
 pub(crate) fn each_in<'a>(
     matches: &ArgMatches<'a>,
     named: bool,
@@ -94,13 +96,15 @@ pub(crate) fn each_in<'a>(
     match (matches.get_str("each"), named, first) {
         (Some(_), true, _) => Err(WordFault::Beside("--each <DIR>", "--id <ID>")),
         (Some(_), _, true) => Err(WordFault::Beside("--each <DIR>", "--first")),
+        (None, _, _) if matches.get_flag("json") => Err(WordFault::Wanted("--each <DIR>")),
         (each, _, _) => Ok(each),
     }
 }
 
 /// What the words of `join` ask for.
 ///
-/// Errors: `Missing`; `Id` if what should name the message doesn't; `Beside`, `Order`, `Memory`.
+/// Errors: `Missing`; `Id` if what should name the message doesn't; `Beside`, `Wanted`, `Order`,
+/// `Memory`.
 pub(crate) fn join_command<'a>(
     alloc: Global,
     matches: &ArgMatches<'a>,
@@ -118,6 +122,7 @@ pub(crate) fn join_command<'a>(
         any: matches.get_flag("any"),
         first,
         each,
+        json: matches.get_flag("json"),
         span,
         files: files_in(alloc, matches)?,
     }))
@@ -152,7 +157,7 @@ pub(crate) fn span_in<'a>(matches: &ArgMatches<'a>) -> Result<Span, WordFault<'a
 }
 
 // Refuses a first place behind a last.
-pub(crate) fn check_order<'a>(from: Option<u64>, to: Option<u64>) -> Result<(), WordFault<'a>> {
+fn check_order<'a>(from: Option<u64>, to: Option<u64>) -> Result<(), WordFault<'a>> {
     match (from, to) {
         (Some(from), Some(to)) if from > to => Err(WordFault::Order { from, to }),
         _ => Ok(()),

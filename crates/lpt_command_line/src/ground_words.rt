@@ -36,8 +36,6 @@ pub struct GroundWords<'a> {
     pub up: Option<&'a str>,
     /// The file in which it is kept what is completed.
     pub kept: Option<&'a str>,
-    /// Where the picture of the pass is written, if one is drawn.
-    pub chart: Option<&'a str>,
     /// Whether octets with which no packet begins are passed over.
     pub resync: bool,
     /// How many octets the longest packet on the link has, if it is given: 7 to 65,542.
@@ -149,7 +147,6 @@ fn ground_with<'a>(
         tries: matches.get_one("tries").unwrap_or(TRIES),
         up: matches.get_str("up"),
         kept: matches.get_str("job"),
-        chart: matches.get_str("chart"),
         resync: matches.get_flag("resync"),
         longest: matches.get_one("longest"),
         json: matches.get_flag("json"),

@@ -109,15 +109,6 @@ const JOB: NamedRow = NamedRow {
            it",
 };
 
-const CHART: NamedRow = NamedRow {
-    name: "chart",
-    value: TEXT,
-    behind: &["FILE"],
-    action: ArgAction::Set,
-    other: &[],
-    help: "Draw into this file, as SVG, what was sent and settled in each round",
-};
-
 const PASSES: NamedRow = NamedRow {
     name: "passes",
     value: TEXT,
@@ -174,7 +165,7 @@ const TO: NamedRow = NamedRow {
 };
 
 /// The words that each command below `ground` takes after its own.
-pub(crate) static GROUND_WORDS: [NamedRow; 7] = [UP, JOB, CHART, RESYNC, LONGEST, JSON, QUIET];
+pub(crate) static GROUND_WORDS: [NamedRow; 6] = [UP, JOB, RESYNC, LONGEST, JSON, QUIET];
 
 /// `ground load`.
 pub(crate) static GROUND_LOAD: CommandRow = CommandRow {
@@ -220,9 +211,8 @@ const PASS_SEED: NamedRow = NamedRow {
 };
 
 /// The words that each command below `pass` takes after its own.
-pub(crate) static PASS_WORDS: [NamedRow; 13] = [
+pub(crate) static PASS_WORDS: [NamedRow; 12] = [
     JOB,
-    CHART,
     LONGEST,
     JSON,
     CRAFT_MEMORY,

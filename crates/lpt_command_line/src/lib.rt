@@ -33,7 +33,7 @@ mod tailored_words;
 mod verify_words;
 mod word_fault;
 
-pub use command_line::{ChartWords, Command, CommandLine, NoCommand, read_words};
+pub use command_line::{Command, CommandLine, NoCommand, RunWords, read_words};
 pub use compare_words::{ChecksumWords, CompareWords};
 pub use extract_words::ExtractWords;
 pub use file_words::{GivenName, JoinWords, ListWords, Span};

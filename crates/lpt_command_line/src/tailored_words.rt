@@ -36,13 +36,15 @@ pub struct JoinLayoutWords<'a> {
     pub first: bool,
     /// The folder into which every message is written, if it isn't one alone.
     pub each: Option<&'a str>,
+    /// Whether a line of JSON says where each of them is.
+    pub json: bool,
     /// Which octets of the packets are read.
     pub span: Span,
 }
 
 /// What the words of `join --layout` ask for.
 ///
-/// Errors: `Missing`, `Beside`, `Order`, `Memory`.
+/// Errors: `Missing`, `Beside`, `Wanted`, `Order`, `Memory`.
 pub(crate) fn join_layout_command<'a>(
     alloc: Global,
     matches: &ArgMatches<'a>,
@@ -61,6 +63,7 @@ pub(crate) fn join_layout_command<'a>(
         any: matches.get_flag("any"),
         first,
         each,
+        json: matches.get_flag("json"),
         span,
         files: files_in(alloc, matches)?,
     }))
