@@ -225,52 +225,70 @@ def folder() -> pathlib.Path:
                       "./build-c, or name their folder in FORGESILVER_LIB")
 
 
+# What the calls answer that don't answer a U32.
+_ANSWERS = {
+    "lpt_crc16": U16, "lpt_crc16_more": U16, "lpt_end_free": None, "lpt_ground_free": None,
+    "lpt_reader_free": None,
+}
+
+
+class _Library:
+    """A library, which is loaded when one of its calls is first used: what asks only the program needs none."""
+
+    def __getattr__(self, call: str) -> Any:
+        # Python asks this only of what isn't there yet.
+        if call.startswith("lpt_") and not _LOADED:
+            _load()
+        return object.__getattribute__(self, call)
+
+
+codecs, end, ground, reader = _Library(), _Library(), _Library(), _Library()
+_LIBRARIES = [
+    (codecs, CODECS, _OF_CODECS), (end, END, _OF_END), (ground, GROUND, _OF_GROUND), (reader, READER, _OF_READER),
+]
 # The files of the libraries that were loaded.
 _LOADED: list[pathlib.Path] = []
 
 
 def version() -> str:
-    """The version of the libraries that are loaded. It ends in `+unproved` if one of them is of
-    `./build-c --unproved`: so says its file, in the section .comment, unless that was stripped."""
+    """The version of the libraries. It ends in `+unproved` if one of them is of `./build-c --unproved`: so says its
+    file, in the section .comment, unless that was stripped."""
+    if not _LOADED:
+        _load()
     mark = f"forgesilver {VERSION}+unproved".encode()
     is_unproved = any(mark in it.read_bytes() for it in _LOADED)
     return f"{VERSION}+unproved" if is_unproved else VERSION
 
 
-def _loaded(path: pathlib.Path, calls: dict[str, tuple[Any, ...]]) -> Any:
-    """A shared library, each of whose calls knows what it takes and answers."""
+def _loaded(path: pathlib.Path, calls: dict[str, tuple[Any, ...]]) -> dict[str, Any]:
+    """The calls of a shared library, each of which knows what it takes and answers."""
     try:
         library = ctypes.PyDLL(str(path))
-        for name, words in calls.items():
-            call = getattr(library, name)
-            call.argtypes, call.restype = words, U32
+        found = {name: getattr(library, name) for name in calls}
     except (OSError, AttributeError) as error:
         raise ImportError(f"forgesilver: {path}: {error}") from error
-    _LOADED.append(path)
-    return library
+    for name, call in found.items():
+        call.argtypes, call.restype = calls[name], _ANSWERS.get(name, U32)
+    return found
 
 
-def _load() -> tuple[Any, Any, Any, Any]:
-    """The libraries, which are of the package's version."""
+def _load() -> None:
+    """Loads the libraries, which are of the package's version."""
     place = folder()
-    codecs, end = _loaded(place / CODECS, _OF_CODECS), _loaded(place / END, _OF_END)
-    ground, reader = _loaded(place / GROUND, _OF_GROUND), _loaded(place / READER, _OF_READER)
-    codecs.lpt_crc16.restype = codecs.lpt_crc16_more.restype = U16
-    end.lpt_end_free.restype = ground.lpt_ground_free.restype = None
-    reader.lpt_reader_free.restype = None
-    found = codecs.lpt_version()
+    loaded = [_loaded(place / name, calls) for _, name, calls in _LIBRARIES]
+    found = loaded[0]["lpt_version"]()
     if found != VERSION_NUMBER:
         raise ImportError(f"forgesilver: {place / CODECS} is of version {_dotted(found)}, and the "
                           f"package of {VERSION}")
-    return codecs, end, ground, reader
+    for (library, _, _), calls in zip(_LIBRARIES, loaded):
+        vars(library).update(calls)
+    _LOADED[:] = [place / name for _, name, _ in _LIBRARIES]
 
 
 def _dotted(number: int) -> str:
     """A version's number, as it is written."""
     return f"{number // 1000000}.{number // 1000 % 1000}.{number % 1000}"
 
-
-codecs, end, ground, reader = _load()
 
 # ---- octets in ----
 

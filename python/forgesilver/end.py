@@ -155,7 +155,7 @@ class End(Handle):
     """
 
     __slots__ = ("config", "side", "_length", "_longest", "_report")
-    _noun, _free = "the end", staticmethod(_end.lpt_end_free)
+    _noun, _free = "the end", staticmethod(lambda at: _end.lpt_end_free(at))
 
     def __init__(
         self,

@@ -62,7 +62,7 @@ class Job(Handle):
     """
 
     __slots__ = ("request", "_lengths", "_most")
-    _noun, _free = "the job", staticmethod(_ground.lpt_ground_free)
+    _noun, _free = "the job", staticmethod(lambda at: _ground.lpt_ground_free(at))
 
     def __init__(
         self, request: Request, *, source: int, apid: int = 100, part_size: int = 1024,
