@@ -78,7 +78,7 @@ enum LptFault {
                                before */
 
     /* A packet that isn't a message of the kind that is read; tested in the order 12, 13, 11. */
-    LPT_E_PUS_VERSION = 11,  /* the PUS version isn't 2 (for a reader: isn't the layout's) */
+    LPT_E_PUS_VERSION = 11,  /* the PUS version isn't 2 */
     LPT_E_WRONG_TYPE = 12,   /* it is telemetry, and not a telecommand, or the other way round */
     LPT_E_SHORT_HEADER = 13, /* the data field is shorter than the secondary header */
 
@@ -124,7 +124,7 @@ enum LptFault {
     LPT_E_STILL_OPEN = 55,  /* the transaction is open */
     LPT_E_CLOCK_END = 56,   /* the clock would pass its greatest value */
 
-    /* Of an end, a pass or a reader: an allocation was refused. */
+    /* Of an end or a pass: an allocation was refused. */
     LPT_E_ALLOCATION = 58,
     /* Of an end: a plain request has the service type and message subtype of a part. */
     LPT_E_PART_REQUEST = 60,
@@ -140,21 +140,19 @@ enum LptFault {
     LPT_E_IDLE = 101,
     /* A number is out of the range that the call's comment gives. */
     LPT_E_RANGE = 102,
-    /* The buffer is too short. It is as it was, and `needed` says how many octets it must have. In
-       lpt_reader_lay, `laid` says that. */
+    /* The buffer is too short. It is as it was, and `needed` says how many octets it must have. */
     LPT_E_ROOM = 103,
     /* The result depends on octets to come: more of the stream is needed. */
     LPT_E_MORE = 104,
-    /* The body isn't the report that it is read as. Of lpt_reader_area: the body isn't exactly the
-       areas that it announces. */
+    /* The body isn't the report that it is read as. */
     LPT_E_NO_REPORT = 105,
-    /* Of an end, a pass or a reader: its content is lost, because a memory function was left by
+    /* Of an end or a pass: its content is lost, because a memory function was left by
        longjmp or by an exception. In Python: it was closed. */
     LPT_E_EMPTY = 106,
     /* Of an end: its count of released requests, or of restarts, has its greatest value,
        2^64 - 1. */
     LPT_E_NO_NUMBER = 108,
-    /* Of an end, a pass or a reader: there is nothing to copy, to send or to return. */
+    /* Of an end or a pass: there is nothing to copy, to send or to return. */
     LPT_E_NOTHING = 109,
     /* Of an end: packets that wait must be sent first. */
     LPT_E_UNSENT = 110,
@@ -176,13 +174,6 @@ enum LptFault {
     LPT_E_READ_LENGTH = 120,
     /* A job takes more requests than a pass may have, 16,384. */
     LPT_E_LONG_JOB = 121,
-    /* Of a reader: the text is no layout. */
-    LPT_E_LAYOUT = 122,
-    /* Of a reader: the archive has ended. */
-    LPT_E_ENDED = 123,
-    /* Of a reader: the packets have no checksum, and the parts of this message may come from
-       several messages. */
-    LPT_E_UNSURE = 124,
     /* Of an end: the clock, or the tick at which a reception last got a part, would go below 0. */
     LPT_E_CLOCK_START = 125
 };
@@ -305,12 +296,6 @@ static inline const char *lpt_fault_name(uint32_t fault) {
         return "read length";
     case LPT_E_LONG_JOB:
         return "long job";
-    case LPT_E_LAYOUT:
-        return "layout";
-    case LPT_E_ENDED:
-        return "ended";
-    case LPT_E_UNSURE:
-        return "unsure";
     case LPT_E_CLOCK_START:
         return "clock start";
     default:

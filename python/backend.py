@@ -17,7 +17,7 @@ import zipfile
 
 HERE = pathlib.Path(__file__).resolve().parent
 TOP = HERE.parent
-LIBRARIES = ["liblpt.so.0", "liblpt_end.so.0", "liblpt_ground.so.0", "liblpt_reader.so.0"]
+LIBRARIES = ["liblpt.so.0", "liblpt_end.so.0", "liblpt_ground.so.0"]
 
 
 def _project() -> dict[str, str]:

@@ -70,9 +70,6 @@ LIBRARIES = [
         "lpt_c_ground", "lpt_ground", "Ground's end of a pass that carries a job to its end", "lpt",
         ["examples/c/memory/heap.c"],
     ),
-    Library(
-        "lpt_c_reader", "lpt_reader", "A reader of archives of packets", "lpt", ["examples/c/memory/heap.c"],
-    ),
 ]
 
 # In rt fmt's layout: a function's head, with its contract, ends where its body begins on a line of

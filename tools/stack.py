@@ -22,12 +22,10 @@ from typing import Iterator, NamedTuple
 
 TOP = pathlib.Path(__file__).resolve().parent.parent
 KEPT = TOP / "bench/results/c-bounds.csv"
-ARCHIVES = ["liblpt.a", "liblpt_end.a", "liblpt_ground.a", "liblpt_reader.a"]
+ARCHIVES = ["liblpt.a", "liblpt_end.a", "liblpt_ground.a"]
 HEAD = ["Call", "Processor", "Stack", "Code", "Calls itself"]
 # The functions that call themselves, once for each level of a tree, and one more than the kit's MAX_HEIGHT.
 OF_TREES, LEVELS = "std_collections::btree::", 12
-# Calls that have none: the reader of TOML calls itself as deep as a text has tables and arrays in one another.
-WITHOUT = {"lpt_reader_new", "lpt_reader_new_join"}
 # How much a bound may grow before it is wrong: by another choice of the compiler's.
 MOST = 1.05
 
@@ -259,7 +257,7 @@ class Program:
             try:
                 stack = str(self.depth(name) + (8 if self.processor == "x86_64" else 0))
             except Unbounded as error:
-                stack = "none" if name in WITHOUT else f"no bound: {error}"
+                stack = f"no bound: {error}"
             reached = self.reached(name)
             levels = LEVELS if any(self.cycle(it) for it in reached) else 0
             yield [name, self.processor, stack, str(sum(self.sizes[it] for it in reached)), str(levels)]

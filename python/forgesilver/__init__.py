@@ -3,31 +3,25 @@ request verification (ECSS-E-ST-70-41C), over the libraries of Forgesilver, whic
 
     >>> from forgesilver import *
     >>> packets = list(split(bytes(20), name=(1, 7), part_size=8, apid=100))
-    >>> join(packets, part_size=8, any=True) == bytes(20)
-    True
     >>> with End(Side.SPACECRAFT, Config(part_size=8), {1: bytes(256)}) as spacecraft:
     ...     [spacecraft.feed(it).kind.name for it in packets]
     ['KEPT', 'KEPT', 'RELEASED']
 
 The modules:
 
-- packets: packets, telecommands and telemetry, and the packets of a stream
+- space_packets: packets, telecommands and telemetry, and the packets of a stream
 - parts: the parts of large messages, and `split`
-- archive: `Archive` reads an archive by any layout: its packets as they come, its messages, images of
-  memories, or the outcomes of requests
-- joining: `join` and `join_each`, which join the parts in an archive
-- images: `read_image`, which puts dump reports together
-- distributed: `join_each` and `read_image` for many files, on the workers of Dask
 - memory: requests to load, dump and check a memory, and their reports
 - reports: verification reports
 - end: one end of a link, with a spacecraft's memories
 - job: a load, dump or check that ground repeats until reports settle it
 - kinds: enumerations: kinds of packets, outcomes, reasons and so on
 - faults: an exception for each fault
+- program: the program `lpt`, where it is and how it is run
 
 Octets are any object with a buffer: `bytes`, `bytearray`, `memoryview`, an array or a mapped file.
 `read_packet` and the other functions `read_..` return views if they get a `memoryview`, otherwise
-copies (`read_image` always copies). Numbers out of their range raise `faults.Range`, and arguments of
+copies. Numbers out of their range raise `faults.Range`, and arguments of
 another type TypeError.
 
 The package looks for the libraries in the folder that FORGESILVER_LIB names. If that isn't set, it
@@ -41,48 +35,39 @@ from . import faults
 from ._handle import WrongThread
 from ._library import VERSION as __version__
 from ._library import version
-from .archive import Archive, Listed, Message, Missing
 from .end import Applied, Config, End, Outcome, Reception, Sender, View
 from .faults import Fault
-from .images import Image, Others, Passed, read_image
 from .job import Fate, Job, Progress
-from .joining import Joined, NotJoined, SkippedWarning, join, join_each
 from .kinds import (
-    Acknowledge, AppliedKind, Direction, Failure, FateState, ItemKind, JobKind, LaidKind, MessageKind,
-    Mode, NameState, OutcomeKind, PacketKind, PartKind, PieceKind, Reason, ReportKind, Side, Step, Why,
+    Acknowledge, AppliedKind, Direction, Failure, FateState, JobKind, Mode, NameState, OutcomeKind,
+    PacketKind, PartKind, PieceKind, Reason, ReportKind, Side, Step, Why,
 )
 from .memory import (
     Area, Check, Checked, CheckReport, Dump, DumpReport, Load, Loaded, read_check, read_data_report,
     read_dump, write_load,
 )
-from .outcomes import Outcomes, PassedOver, RequestOutcome
-from .packets import (
-    LONGEST_PACKET, Packet, Telecommand, Telemetry, crc16, find_piece, packet_length, packets_of,
-    read_message, read_packet, read_telecommand, read_telemetry, sound_packets_of, write_packet,
-    write_telecommand, write_telemetry,
-)
 from .parts import (
     AbortReport, Name, Part, part_count, part_kind, part_of, read_abort, read_part, split,
     write_abort, write_part,
 )
+from .program import ProgramError
 from .reports import VerificationReport, read_report, verification_of, write_report
+from .space_packets import (
+    LONGEST_PACKET, Packet, Telecommand, Telemetry, crc16, find_piece, packet_length, packets_of,
+    read_message, read_packet, read_telecommand, read_telemetry, sound_packets_of, write_packet,
+    write_telecommand, write_telemetry,
+)
 
 __all__ = [
-    "AbortReport", "Acknowledge", "Applied", "AppliedKind", "Archive", "Area", "Check", "CheckReport",
-    "Checked", "Config", "Direction", "Dump", "DumpReport", "End", "Failure", "Fate",
-    "FateState", "Fault", "Image", "ItemKind", "Job", "JobKind", "Joined",
-    "LONGEST_PACKET", "LaidKind", "Listed", "Load", "Loaded", "Message", "MessageKind", "Missing",
-    "Mode", "Name", "NameState", "NotJoined", "Others", "Outcome", "OutcomeKind", "Outcomes",
-    "Packet", "PacketKind", "Part", "PartKind", "Passed", "PassedOver", "PieceKind", "Progress", "Reason",
-    "Reception", "ReportKind", "RequestOutcome", "Sender", "Side", "SkippedWarning", "Step",
-    "Telecommand",
-    "Telemetry", "VerificationReport", "View", "Why", "WrongThread", "crc16", "faults",
-    "find_piece", "join", "join_each",
-    "packet_length", "packets_of", "part_count", "part_kind", "part_of", "read_abort", "read_check",
-    "read_data_report", "read_dump", "read_image",
-    "read_message", "read_packet", "read_part", "read_report", "read_telecommand",
-    "read_telemetry", "sound_packets_of", "split", "verification_of", "version", "write_abort",
-    "write_load", "write_packet",
-    "write_part",
+    "AbortReport", "Acknowledge", "Applied", "AppliedKind", "Area", "Check", "CheckReport",
+    "Checked", "Config", "Direction", "Dump", "DumpReport", "End", "Failure", "Fate", "FateState",
+    "Fault", "Job", "JobKind", "LONGEST_PACKET", "Load", "Loaded", "Mode", "Name", "NameState",
+    "Outcome", "OutcomeKind", "Packet", "PacketKind", "Part", "PartKind", "PieceKind",
+    "ProgramError", "Progress", "Reason", "Reception", "ReportKind", "Sender", "Side", "Step",
+    "Telecommand", "Telemetry", "VerificationReport", "View", "Why", "WrongThread", "crc16",
+    "faults", "find_piece", "packet_length", "packets_of", "part_count", "part_kind", "part_of",
+    "read_abort", "read_check", "read_data_report", "read_dump", "read_message", "read_packet",
+    "read_part", "read_report", "read_telecommand", "read_telemetry", "sound_packets_of", "split",
+    "verification_of", "version", "write_abort", "write_load", "write_packet", "write_part",
     "write_report", "write_telecommand", "write_telemetry",
 ]

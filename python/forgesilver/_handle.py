@@ -1,4 +1,4 @@
-"""What ends, jobs and archives share: the address of something in a library. Not for the caller."""
+"""What ends and jobs share: the address of something in a library. Not for the caller."""
 
 from __future__ import annotations
 
@@ -16,7 +16,7 @@ _H = TypeVar("_H", bound="Handle")
 
 
 class WrongThread(RuntimeError):
-    """An end, a job or an archive is used by another thread than the one that made it, or within
+    """An end or a job is used by another thread than the one that made it, or within
     another of its calls."""
 
 

@@ -27,7 +27,6 @@ else:
 VERSION = "0.1.0"
 VERSION_NUMBER = 1000
 CODECS, END, GROUND = "liblpt.so.0", "liblpt_end.so.0", "liblpt_ground.so.0"
-READER = "liblpt_reader.so.0"
 
 U8, U16, U32, U64 = ctypes.c_uint8, ctypes.c_uint16, ctypes.c_uint32, ctypes.c_uint64
 SIZE, POINTER = ctypes.c_size_t, ctypes.c_void_p
@@ -49,20 +48,6 @@ LptTmHead = _structure(
 )
 LptTm = _structure("LptTm", head=LptTmHead, at=SIZE, len=SIZE)
 LptPart = _structure("LptPart", id=U16, number=U16, kind=U32, at=SIZE, len=SIZE)
-LptItem = _structure(
-    "LptItem", place=U64, stray=U64, length=SIZE, time_at=SIZE, body_at=SIZE, body_len=SIZE,
-    part_len=SIZE, kind=U32, fault=U32, packet=U32, counter=U32, user=U32, part=U32, id=U32,
-    number=U32, apid=U16, count=U16, flags=U8, service=U8, subtype=U8, time_len=U8,
-)
-LptMessage = _structure(
-    "LptMessage", place=U64, first=U64, length=SIZE, highest=SIZE, kind=U32, direction=U32,
-    user=U32, id=U32, last=U32, fault=U32,
-)
-LptNamed = _structure(
-    "LptNamed", at=SIZE, length=SIZE, address=U32, fault=U32, checksum=U16, memory=U8, areas=U8
-)
-LptImage = _structure("LptImage", start=U32, apid=U16, memory=U8, marks=U8)
-LptLaid = _structure("LptLaid", end=U64, number=SIZE, kind=U32, passed=U32)
 LptAbort = _structure("LptAbort", id=U16, reason=U16)
 LptReport = _structure("LptReport", request=U32, failed=U16, code=U16)
 LptRange = _structure("LptRange", address=U32, len=U16)
@@ -190,22 +175,6 @@ _OF_GROUND: dict[str, tuple[Any, ...]] = {
     "lpt_ground_dumped": (POINTER, SIZE, *_WRITE),
     "lpt_ground_agrees": (POINTER, *_READ, POINTER),
 }
-_OF_READER: dict[str, tuple[Any, ...]] = {
-    "lpt_reader_new": (POINTER, U32, *_READ),
-    "lpt_reader_free": (POINTER,),
-    "lpt_reader_feed": (POINTER, *_READ),
-    "lpt_reader_end": (POINTER,),
-    "lpt_reader_next": (POINTER, POINTER),
-    "lpt_reader_octets": (POINTER, *_WRITE),
-    "lpt_reader_date": (POINTER, *_WRITE),
-    "lpt_reader_areas": (POINTER, *_READ, POINTER),
-    "lpt_reader_area": (POINTER, *_READ, SIZE, POINTER),
-    "lpt_reader_lay": (POINTER, *_READ, POINTER, POINTER, SIZE, POINTER),
-    "lpt_reader_new_join": (POINTER, U32, U16, U32, U32, *_READ),
-    "lpt_reader_message": (POINTER, POINTER),
-    "lpt_reader_message_octets": (POINTER, *_WRITE),
-    "lpt_reader_missing": (POINTER, U32, POINTER),
-}
 
 
 def folder() -> pathlib.Path:
@@ -218,17 +187,16 @@ def folder() -> pathlib.Path:
     if os.environ.get("FORGESILVER_LIB"):
         places = [pathlib.Path(os.environ["FORGESILVER_LIB"]).resolve()]
     for place in places:
-        if all((place / it).is_file() for it in (CODECS, END, GROUND, READER)):
+        if all((place / it).is_file() for it in (CODECS, END, GROUND)):
             return place
     said = ", ".join(map(str, places))
-    raise ImportError(f"forgesilver: {CODECS}, {END}, {GROUND} and {READER} aren't in {said}: run "
+    raise ImportError(f"forgesilver: {CODECS}, {END} and {GROUND} aren't in {said}: run "
                       "./build-c, or name their folder in FORGESILVER_LIB")
 
 
 # What the calls answer that don't answer a U32.
 _ANSWERS = {
     "lpt_crc16": U16, "lpt_crc16_more": U16, "lpt_end_free": None, "lpt_ground_free": None,
-    "lpt_reader_free": None,
 }
 
 
@@ -242,9 +210,9 @@ class _Library:
         return object.__getattribute__(self, call)
 
 
-codecs, end, ground, reader = _Library(), _Library(), _Library(), _Library()
+codecs, end, ground = _Library(), _Library(), _Library()
 _LIBRARIES = [
-    (codecs, CODECS, _OF_CODECS), (end, END, _OF_END), (ground, GROUND, _OF_GROUND), (reader, READER, _OF_READER),
+    (codecs, CODECS, _OF_CODECS), (end, END, _OF_END), (ground, GROUND, _OF_GROUND),
 ]
 # The files of the libraries that were loaded.
 _LOADED: list[pathlib.Path] = []

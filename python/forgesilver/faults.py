@@ -61,7 +61,7 @@ class Checksum(Fault, ValueError):
 
 
 class PusVersion(Fault, ValueError):
-    """The header's PUS version isn't 2, or in an `Archive` isn't the layout's."""
+    """The header's PUS version isn't 2."""
 
     number = 11
 
@@ -362,24 +362,6 @@ class LongJob(Fault, ValueError):
     """The job takes more requests than a pass has, 16,384."""
 
     number = 121
-
-
-class Layout(Fault, ValueError):
-    """The text is no layout."""
-
-    number = 122
-
-
-class Ended(Fault, ValueError):
-    """The archive has ended."""
-
-    number = 123
-
-
-class Unsure(Fault, ValueError):
-    """The message may be of parts of several ones, and its packets have no checksum."""
-
-    number = 124
 
 
 class ClockStart(Fault, ValueError):

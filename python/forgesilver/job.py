@@ -14,7 +14,7 @@ from ._library import U32, Given, Octets, Room, number, of_kind
 from .faults import raise_fault
 from .kinds import Acknowledge, Failure, FateState, JobKind, Step
 from .memory import Area, Check, Dump, Load, Loaded, Request
-from .packets import GREATEST_APID
+from .space_packets import GREATEST_APID
 
 _ground = _library.ground
 _KINDS = {Load: JobKind.LOAD, Dump: JobKind.DUMP, Check: JobKind.CHECK}

@@ -45,56 +45,6 @@ class PieceKind(IntEnum):
     STRAY = 3
 
 
-class ItemKind(IntEnum):
-    """What an archive has. END: its end. PACKET: a packet with a secondary header of the layout.
-    IDLE: an idle packet. FAULTY: a damaged packet, a segment, or a packet whose secondary header is
-    missing or isn't the layout's; it has as many octets as its header says."""
-
-    END = 0
-    PACKET = 1
-    IDLE = 2
-    FAULTY = 3
-
-
-class MessageKind(IntEnum):
-    """What becomes of an archive's messages.
-
-    - END: the archive ends
-    - NONE: nothing happened
-    - WHOLE: a message is whole
-    - MISSING: the parts of an incomplete message are given up
-    - OVERTAKES: the parts of one message are given up, and another message is whole
-    - UNFIT: a message is whole, but isn't given, because it is no packet of its direction, or because,
-      without checksums, it may have parts of several messages
-    """
-
-    END = 0
-    NONE = 1
-    WHOLE = 2
-    MISSING = 3
-    OVERTAKES = 4
-    UNFIT = 5
-
-
-class LaidKind(IntEnum):
-    """What a message is for the image of a memory.
-
-    - OTHER: no dump report
-    - PART: a part of a message of the APID
-    - APID: a dump report, or a part, of another APID
-    - UNREAD: a dump report whose body isn't read
-    - MEMORY: a dump report of another memory
-    - AREAS: a dump report of this memory
-    """
-
-    OTHER = 0
-    PART = 1
-    APID = 2
-    UNREAD = 3
-    MEMORY = 4
-    AREAS = 5
-
-
 class Reason(IntEnum):
     """Why a reception was aborted. EXPIRED: no part came for as long as the timeout, or the
     reception was given up. DISCONTINUITY: in strict mode a part came that is neither the

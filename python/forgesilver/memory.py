@@ -14,7 +14,7 @@ from . import _library
 from ._library import LONGEST_PACKET, Given, Held, Octets, Room, number, of_kind, piece_of
 from .faults import BadArea, LongLoad, NoReport, raise_fault
 from .kinds import Acknowledge
-from .packets import Telecommand, Telemetry
+from .space_packets import Telecommand, Telemetry
 
 _codecs = _library.codecs
 

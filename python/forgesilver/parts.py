@@ -1,5 +1,5 @@
 """Large messages and their parts (ECSS-E-ST-70-41C, service 13): `split` makes the packets of a
-message; `join`, in the module joining, makes the message from them again."""
+message."""
 
 from __future__ import annotations
 
@@ -11,7 +11,7 @@ from . import _library
 from ._library import U32, Given, Held, Octets, Room, number, of_kind, piece_of
 from .faults import LongMessage, ShortMessage, raise_fault
 from .kinds import Acknowledge, Direction, PacketKind, PartKind, Reason
-from .packets import GREATEST_APID, Telecommand, Telemetry, write_telecommand, write_telemetry
+from .space_packets import GREATEST_APID, Telecommand, Telemetry, write_telecommand, write_telemetry
 
 #: The service type of large packet transfer, and the message subtype of an abortion report.
 SERVICE = 13

@@ -10,7 +10,7 @@ from . import _library
 from ._library import Given, Octets, Room, number, of_kind
 from .faults import NoReport, raise_fault
 from .kinds import Failure, ReportKind
-from .packets import Telemetry
+from .space_packets import Telemetry
 
 #: The service type of request verification.
 SERVICE = 1

@@ -13,7 +13,6 @@ import io
 import pickle
 import random
 import signal
-import tempfile
 import threading
 import warnings
 
@@ -88,8 +87,6 @@ def threads(want) -> None:
         # As if a signal's handler came within a call.
         want("within a call", end._call(lambda _: raised(end.tick)), forgesilver.WrongThread)
         want("behind it", raised(end.tick), None)
-    archives(want)
-
     # An end for each thread, all at once.
     message, joined = random.Random(3).randbytes(5000), []
 
@@ -108,49 +105,6 @@ def threads(want) -> None:
     for it in others:
         it.join()
     want("each thread its own", joined == [message] * 16, True)
-
-
-def archives(want) -> None:
-    """An archive that another thread closes stays open, and no call is taken while it reads its file."""
-    packets = b"".join(forgesilver.split(bytes(20), name=NAME, part_size=8, apid=100))
-    with tempfile.NamedTemporaryFile() as file:
-        file.write(packets)
-        file.flush()
-        with forgesilver.Archive(file.name, part_size=8) as archive:
-            found = []
-            other = threading.Thread(target=lambda: found.append(raised(archive.close)))
-            other.start()
-            other.join()
-            want("an archive, closed by another thread", found, [forgesilver.WrongThread])
-            want("it goes on", [it.place for it in archive], [0, 25, 50, 71])
-
-    up = Direction.UP
-    with forgesilver.Archive(packets, part_size=8) as archive:
-        calls = [
-            lambda: next(archive), archive.missing, lambda: archive.messages(up, apid=100),
-            lambda: archive.image(1, apid=100), lambda: archive.outcomes(b""),
-        ]
-        found = []
-        other = threading.Thread(target=lambda: found.extend(raised(call) for call in calls))
-        other.start()
-        other.join()
-        want("an archive, read by another thread", found, [forgesilver.WrongThread] * len(calls))
-        want("an APID out of range", raised(archive.messages, up, apid=2047), faults.Range)
-        got = [it.id for it in archive.messages(up, apid=100, any=True)]
-        want("its own thread reads it", got, [NAME[1]])
-
-    class Nested(io.BytesIO):
-        """A file whose reads call the archive."""
-
-        def read1(self, *words) -> bytes:
-            nested.append(raised(next, reading))
-            return super().read1(*words)
-
-    nested: list[object] = []
-    reading = forgesilver.Archive(Nested(packets), part_size=8)
-    want("behind nested calls", [it.place for it in reading], [0, 25, 50, 71])
-    want("nested calls", set(nested), {forgesilver.WrongThread})
-    reading.close()
 
 
 def interrupts(want) -> None:
@@ -230,8 +184,6 @@ def wrong_types(want) -> None:
     for junk in JUNK:
         tried(forgesilver.split, junk, name=junk, part_size=junk, apid=junk)
         tried(forgesilver.split, bytes(20), name=NAME, part_size=8, apid=junk, count=junk)
-        tried(forgesilver.join, junk, part_size=8)
-        tried(forgesilver.join_each, [junk], part_size=8)
         tried(forgesilver.Load(1, [junk]).body)
         tried(forgesilver.Dump(1, [junk]).body)
         for words in ((junk,), (Side.GROUND, junk), (Side.SPACECRAFT, CONFIG, junk), (0, CONFIG, {junk: b"1"} if junk.__hash__ else junk)):
@@ -352,8 +304,6 @@ def codec_faults(want) -> None:
             for wrong in (None, 1.0, "1"):
                 want(f"{field} {wrong!r}", raised(write, dataclasses.replace(it, **{field: wrong})), TypeError)
     want("longest", len(f.write_packet(f.Packet(f.PacketKind.TC, 1, 0, bytes(65534)))), f.LONGEST_PACKET)
-    joined = (f.join([], part_size=8) for _ in range(1))
-    want("no part", raised(next, joined), f.NotJoined)
     error = e.ShortPart()
     want("a text", (str(error), error.number, isinstance(error, ValueError)), ("20: The body of a part has fewer than 4 octets", 20, True))
     want("no memory", issubclass(e.Allocation, MemoryError), True)

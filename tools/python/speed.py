@@ -2,16 +2,14 @@
 
     PYTHONPATH=python python3 tools/python/speed.py
 
-A message of 65,000 octets is split into parts of 1,024 octets, and of 64, and joined again; a receiver takes
-all parts; and `join_each` joins them from a file, and from packets one by one. It prints the median microseconds of processor time for a packet of each, over the package and over the model. The
-model's checksums are those of Python's binascii, which is C; the last column has the model with a table of its
+A message of 65,000 octets is split into parts of 1,024 octets, and of 64, and a receiver takes all parts. It prints the
+median microseconds of processor time for a packet of each, over the package and over the model. The model's checksums are those of Python's binascii, which is C; the last column has the model with a table of its
 own in place of it.
 """
 
 from __future__ import annotations
 
 import binascii
-import io
 import pathlib
 import statistics
 import sys
@@ -115,17 +113,6 @@ def median(work: Callable[[], object], count: int) -> float:
     return statistics.median(found) / count * 1e6
 
 
-def of_each(size: int) -> tuple[float, float]:
-    """The same of `join_each`, from a file, and of packets one by one."""
-    packets = [*forgesilver.split(MESSAGE, name=NAME, part_size=size, apid=100)] * 4
-    octets, words = b"".join(packets), {"part_size": size, "any": True}
-    forms = (lambda: io.BytesIO(octets), lambda: packets)
-    first, second = (
-        median(lambda form=form: list(forgesilver.join_each(form(), **words)), len(packets)) for form in forms
-    )
-    return first, second
-
-
 def main() -> None:
     """The table."""
     print("parts of   work    package   model   model, checksums in Python")
@@ -141,7 +128,6 @@ def main() -> None:
             times.append(median(rows[1], len(packets)))
             model_packets.binascii = binascii
             print(f"{size:8}   {name:5} {times[0]:9.1f} {times[1]:7.1f} {times[2]:9.1f}")
-        print(f"{size:8}   join_each: from a file {{:.1f}}, of packets {{:.1f}}".format(*of_each(size)))
 
 
 if __name__ == "__main__":

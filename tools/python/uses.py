@@ -6,11 +6,9 @@ from __future__ import annotations
 
 import array
 import ctypes
-import datetime
 import io
 import mmap
-import pathlib
-from typing import Any, Iterator, Optional
+from typing import Iterator, Optional
 
 import forgesilver as f
 
@@ -31,13 +29,7 @@ def streams(file: io.BufferedReader, mapped: mmap.mmap) -> None:
     of_octets: Iterator[memoryview] = f.packets_of(mapped)
     wrong: Iterator[str] = f.packets_of(OCTETS)  # type: ignore[assignment]
     print(wrong)
-    for packets in (of_file, of_octets):
-        message: bytes = f.join(packets, part_size=8, name=(1, 7))
-        f.join(message, part_size=8)
-    f.join(OCTETS, part_size=8)
-    f.join([b"1", OCTETS, memoryview(b"1")], part_size=8)
-    f.join(7, part_size=8)  # type: ignore[arg-type]
-    f.join(file, part_size=8, any="no")  # type: ignore[arg-type]
+    print(of_file, of_octets)
 
 
 def fields(end: f.End) -> None:
@@ -47,26 +39,3 @@ def fields(end: f.End) -> None:
     length: Optional[int] = outcome.length
     text: str = outcome.length  # type: ignore[assignment]
     print(first, length, text)
-    for it in f.join_each(OCTETS, part_size=8):
-        whole: Optional[bytes] = it.message
-        fault: Optional[f.Fault] = it.fault
-        print(whole, fault)
-
-
-def archives(path: pathlib.Path, file: io.BufferedReader) -> None:
-    """An archive gives packets, messages, an image or outcomes."""
-    with f.Archive(path, layout="") as archive:
-        for it in archive:
-            date: Optional[datetime.datetime] = it.date
-            rows: list[dict[str, Any]] = it.rows()
-            print(date, rows, it.count + it.place)
-    with f.Archive(OCTETS, part_size=8) as archive:
-        octets: list[bytes] = [it.octets for it in archive.messages(f.Direction.UP, apid=100)]
-        lost: list[str] = [it.parts for it in archive.missing()]
-        archive.messages("up", apid=100)  # type: ignore[arg-type]
-    with f.Archive(file) as archive:
-        image: f.Image = archive.image(1, apid=100, join=True)
-        places: list[int] = [it.place for it in image.passed]
-        codes: list[Optional[int]] = [it.failure_code for it in archive.outcomes("requests")]
-        f.Archive(7)  # type: ignore[arg-type]
-    print(octets, lost, places, codes)

@@ -133,7 +133,7 @@ def packets_of(stream: Union[Octets, BinaryIO]) -> Iterator[Union[bytes, memoryv
     Raises `Version` if no packet begins where another ends, and `More` if the stream ends within one:
     it was cut, or a length is damaged. Both exceptions say at which octet. The rest isn't searched
     for packets, because a message may contain packets that nobody sent. For a damaged stream use
-    `sound_packets_of`, as `join_each` does.
+    `sound_packets_of`.
     """
     if not has_octets(stream):
         yield from _packets_of_file(stream)  # type: ignore[arg-type]

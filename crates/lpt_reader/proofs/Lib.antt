@@ -1,4 +1,0 @@
-pub mod FrontLemmas
-pub mod ToldLemmas
-pub mod StrayLemmas
-pub mod SealLemmas
