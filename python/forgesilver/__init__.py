@@ -1,5 +1,5 @@
 """Space packets (CCSDS 133.0-B), PUS headers, large packet transfer, raw memory management and
-request verification (ECSS-E-ST-70-41C), over the libraries of Forgesilver, which are proved.
+request verification (ECSS-E-ST-70-41C), over the libraries of Forgesilver and its program `lpt`, which are proved.
 
     >>> from forgesilver import *
     >>> packets = list(split(bytes(20), name=(1, 7), part_size=8, apid=100))
@@ -17,6 +17,7 @@ The modules:
 - job: a load, dump or check that ground repeats until reports settle it
 - kinds: enumerations: kinds of packets, outcomes, reasons and so on
 - faults: an exception for each fault
+- archives: what archives have, as the program reads them: `packets`, `messages`, `image`, `outcomes`
 - program: the program `lpt`, where it is and how it is run
 
 Octets are any object with a buffer: `bytes`, `bytearray`, `memoryview`, an array or a mapped file.
@@ -35,6 +36,10 @@ from . import faults
 from ._handle import WrongThread
 from ._library import VERSION as __version__
 from ._library import version
+from .archives import (
+    COLUMNS, Image, Message, MessageName, ProgramWarning, image, messages, outcomes, packets,
+    packets_of_messages,
+)
 from .end import Applied, Config, End, Outcome, Reception, Sender, View
 from .faults import Fault
 from .job import Fate, Job, Progress
@@ -59,15 +64,16 @@ from .space_packets import (
 )
 
 __all__ = [
-    "AbortReport", "Acknowledge", "Applied", "AppliedKind", "Area", "Check", "CheckReport",
-    "Checked", "Config", "Direction", "Dump", "DumpReport", "End", "Failure", "Fate", "FateState",
-    "Fault", "Job", "JobKind", "LONGEST_PACKET", "Load", "Loaded", "Mode", "Name", "NameState",
-    "Outcome", "OutcomeKind", "Packet", "PacketKind", "Part", "PartKind", "PieceKind",
-    "ProgramError", "Progress", "Reason", "Reception", "ReportKind", "Sender", "Side", "Step",
-    "Telecommand", "Telemetry", "VerificationReport", "View", "Why", "WrongThread", "crc16",
-    "faults", "find_piece", "packet_length", "packets_of", "part_count", "part_kind", "part_of",
-    "read_abort", "read_check", "read_data_report", "read_dump", "read_message", "read_packet",
-    "read_part", "read_report", "read_telecommand", "read_telemetry", "sound_packets_of", "split",
-    "verification_of", "version", "write_abort", "write_load", "write_packet", "write_part",
-    "write_report", "write_telecommand", "write_telemetry",
+    "AbortReport", "Acknowledge", "Applied", "AppliedKind", "Area", "COLUMNS", "Check",
+    "CheckReport", "Checked", "Config", "Direction", "Dump", "DumpReport", "End", "Failure", "Fate",
+    "FateState", "Fault", "Image", "Job", "JobKind", "LONGEST_PACKET", "Load", "Loaded", "Message",
+    "MessageName", "Mode", "Name", "NameState", "Outcome", "OutcomeKind", "Packet", "PacketKind",
+    "Part", "PartKind", "PieceKind", "ProgramError", "ProgramWarning", "Progress", "Reason",
+    "Reception", "ReportKind", "Sender", "Side", "Step", "Telecommand", "Telemetry",
+    "VerificationReport", "View", "Why", "WrongThread", "crc16", "faults", "find_piece", "image",
+    "messages", "outcomes", "packet_length", "packets", "packets_of", "packets_of_messages", "part_count", "part_kind",
+    "part_of", "read_abort", "read_check", "read_data_report", "read_dump", "read_message",
+    "read_packet", "read_part", "read_report", "read_telecommand", "read_telemetry",
+    "sound_packets_of", "split", "verification_of", "version", "write_abort", "write_load",
+    "write_packet", "write_part", "write_report", "write_telecommand", "write_telemetry",
 ]

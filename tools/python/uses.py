@@ -6,8 +6,10 @@ from __future__ import annotations
 
 import array
 import ctypes
+import datetime
 import io
 import mmap
+import pathlib
 from typing import Iterator, Optional
 
 import forgesilver as f
@@ -39,3 +41,16 @@ def fields(end: f.End) -> None:
     length: Optional[int] = outcome.length
     text: str = outcome.length  # type: ignore[assignment]
     print(first, length, text)
+
+
+def archives(path: pathlib.Path) -> None:
+    """An archive gives a frame, messages and an image."""
+    for it in f.messages([path, OCTETS], layout=path, direction=f.Direction.UP):
+        whole: Optional[bytes] = it.octets
+        date: Optional[datetime.datetime] = it.date
+        print(whole, date, it.name.apid + it.name.id)
+    image: f.Image = f.image(path, 1, apid=100)
+    frame = f.packets("archive", columns=["place"])
+    print(image.start, frame, f.outcomes(path, b""))
+    f.packets(7)  # type: ignore[arg-type]
+    f.messages(path, direction="up")  # type: ignore[arg-type]
