@@ -92,14 +92,12 @@ local m = {
     source = u16("lpt.source", "Source of the transaction"),
     reason = u8("lpt.failure_reason", "Failure reason", REASONS),
     fault = u8("lpt.fault_code", "Fault", FAULTS),
-    first = ProtoField.framenum("lpt.first_frame", "The message's first packet"),
-    whole = ProtoField.framenum("lpt.whole_frame", "The message is whole"),
-    missing = ProtoField.string("lpt.missing", "Missing parts"),
-    length = ProtoField.uint32("lpt.message_length", "Octets of the message"),
+    message = ProtoField.string("lpt.message", "Message"),
+    first = ProtoField.framenum("lpt.first_frame", "The message's first part"),
 }
 lpt.fields = m
 
-local MALFORMED, SEQUENCE = expert.group.MALFORMED, expert.group.SEQUENCE
+local MALFORMED = expert.group.MALFORMED
 local ERROR, WARN, NOTE = expert.severity.ERROR, expert.severity.WARN, expert.severity.NOTE
 local e = {
     checksum = ProtoExpert.new("pus.wrong_checksum", "Wrong checksum", expert.group.CHECKSUM, ERROR),
@@ -115,12 +113,6 @@ pus.experts = e
 local x = {
     unread = ProtoExpert.new("lpt.unread", "Unread part", MALFORMED, ERROR),
     aborted = ProtoExpert.new("lpt.aborted", "Aborted reception", expert.group.RESPONSE_CODE, WARN),
-    contradiction = ProtoExpert.new("lpt.contradiction", "Contradiction", SEQUENCE, WARN),
-    missing = ProtoExpert.new("lpt.part_missing", "Missing part", SEQUENCE, WARN),
-    again = ProtoExpert.new("lpt.again", "Repeated part", SEQUENCE, NOTE),
-    unfit = ProtoExpert.new("lpt.unfit", "No packet was joined", SEQUENCE, WARN),
-    alone = ProtoExpert.new("lpt.not_joined", "Parts that aren't joined", SEQUENCE, NOTE),
-    given_up = ProtoExpert.new("lpt.given_up", "Parts given up", SEQUENCE, WARN),
 }
 lpt.experts = x
 
@@ -623,8 +615,8 @@ local function is_idle(octets)
     return octets:byte(1) % 8 * 256 + octets:byte(2) == IDLE_APID
 end
 
--- The first test that these octets fail as a packet: by the layout of their type, or of this one.
-local function fault_of(octets, kind)
+-- The first test that these octets fail as a packet, by the layout of their type.
+local function fault_of(octets)
     if #octets < 7 then return SHORT end
     local one, _, three, _, five, six = octets:byte(1, 6)
     if one >= 0x20 then return VERSION end
@@ -632,7 +624,7 @@ local function fault_of(octets, kind)
     if is_idle(octets) then return end
     if three < 0xC0 then return SEGMENTED end
     if one % 16 < 8 then return NO_SECONDARY end
-    if not layouts[kind or math.floor(one / 16) % 2].checksum then return end
+    if not layouts[math.floor(one / 16) % 2].checksum then return end
     local high, low = octets:byte(-2, -1)
     if #octets < 8 or checksum_of(octets:sub(1, -3)) ~= high * 256 + low then return CHECKSUM end
 end
@@ -716,251 +708,24 @@ local function piece(cut, at)
     return is_piece and after or next_sealed(cut, at), fault, is_piece, is_sound
 end
 
--- Why joined octets are no packet of their direction; nothing of one that is.
-local function misfit(octets, is_up)
-    local fault = fault_of(octets, is_up and TELECOMMAND or 0)
-    if fault then return "no packet: fault " .. fault .. " " .. FAULTS[fault] end
-    local one = octets:byte(1)
-    local is_other = (math.floor(one / 16) % 2 == 1) ~= is_up
-    if is_other or is_idle(octets) then return "no packet of its direction" end
-end
+-- Of each name the frame of the first part that came last, and of each part that of its message's: this is found once,
+-- in the order of frames.
 
--- Parts of one message, by their numbers.
-
-local function add(set, part)
-    set.parts[part.number], set.count = part, set.count + 1
-    set.greatest = math.max(set.greatest, part.number)
-    set.places[#set.places + 1] = part.place
-    set.lost = #set.places
-    if part.kind == LAST then set.last = part.number else set.size = #part.octets end
-end
-
-local function set_of(part)
-    local set = {parts = {}, places = {}, lost = 0, count = 0, greatest = 0}
-    if part then add(set, part) end
-    return set
-end
-
--- Whether a last part may stand behind parts of this size.
-local function may_end(last, size)
-    return #last.octets <= size and (last.number - 1) * size + #last.octets <= LONGEST
-end
-
--- The part of these that a further one contradicts.
-local function contradicted(set, part)
-    local parts = set.parts
-    local same, last, greatest = parts[part.number], parts[set.last], parts[set.greatest]
-    if same then
-        return (same.kind ~= part.kind or same.octets ~= part.octets) and same or nil
-    elseif last and (part.kind == LAST or part.number > last.number or not may_end(last, #part.octets)) then
-        return last
-    elseif part.kind == LAST then
-        return greatest and (part.number < greatest.number or not may_end(part, set.size)) and greatest or nil
-    end
-    return set.size and set.size ~= #part.octets and greatest or nil
-end
-
--- The octets of the message, if the last of its parts and all before it are here.
-local function joined(set)
-    if set.count ~= set.last then return end
-    local octets = {}
-    for number = 1, set.last do octets[number] = set.parts[number].octets end
-    return table.concat(octets)
-end
-
--- The parts that didn't come, as `lpt join` lists them.
-local function missing_parts(set)
-    local runs, from = {}, 1
-    for number = 1, set.greatest do
-        if set.parts[number] then
-            if from == number - 1 then runs[#runs + 1] = from end
-            if from < number - 1 then runs[#runs + 1] = from .. "-" .. number - 1 end
-            from = number + 1
-        end
-    end
-    if not set.last then runs[#runs + 1] = from .. "-" end
-    return table.concat(runs, ",")
-end
-
--- Messages in parts, by the rule of `lpt join --each`. Of each name a course is kept: the parts of the last
--- message; all that came behind it; the new ones, which aren't parts of it; and a run, of parts 1, 2 and so
--- on that came in this order. Of each part there is a place, with what is known of it. It is found once, in
--- the order of frames.
-
-local courses, places = {}, {}
+local firsts, places = {}, {}
 
 function lpt.init()
-    courses, places = {}, {}
+    firsts, places = {}, {}
     read_layouts()
 end
 
--- Begins anew behind a message of these parts, with nothing or with a part. The new ones are known to be of a
--- message, or are given up; either way their octets are let go.
-local function begin(course, last, part, is_given_up)
-    local old = course.new
-    old.missing, old.parts = is_given_up and missing_parts(old) or nil, nil
-    old.is_done = not is_given_up
-    course.last, course.all, course.new = last, last and set_of(part), set_of(part)
-    course.new.behind, course.is_stale = course.whole, false
-end
-
--- Gives a message out: each of these parts is one of it, and so are the new ones, unless they are given up.
-local function give(course, set, octets, place, is_given_up)
-    local message = {whole = place.frame, first = place.frame}
-    for _, those in ipairs({set.places, is_given_up and {} or course.new.places}) do
-        for _, one in ipairs(those) do
-            message.first = math.min(message.first, one.frame)
-            if one.messages[#one.messages] ~= message then one.messages[#one.messages + 1] = message end
-        end
-    end
-    place.octets, course.whole, course.octets = octets, place.frame, octets
-    begin(course, set.parts, nil, is_given_up)
-end
-
--- The run, if it is whole with this part, which ends it. A first part begins it; the next one, or one of these
--- again, goes on with it; any other ends it.
-local function run_with(course, part)
-    if part.number == 1 then course.run, course.gave = set_of(), false end
-    local run = course.run
-    if part.number > run.greatest + 1 or contradicted(run, part) then run = set_of() end
-    if part.number == run.greatest + 1 then add(run, part) end
-    course.run = run.count ~= run.last and run or set_of()
-    return run.count == run.last and run or nil
-end
-
--- Whether the new parts are those of a run that is whole: none came before it, or each is one of them.
-local function are_own(course, run)
-    for number, one in pairs(course.is_stale and course.new.parts or {}) do
-        local same = run.parts[number]
-        if not same or same.kind ~= one.kind or same.octets ~= one.octets then return false end
-    end
-    return true
-end
-
--- What a further part makes of others: it contradicts one, or came before, or they are whole.
-local function turn(set, part)
-    local other, again = contradicted(set, part), set.parts[part.number]
-    if not other and not again then add(set, part) end
-    return other, again, not other and not again and joined(set) or nil
-end
-
--- What a part makes of the new ones, and of all. A whole that isn't given out ends the new ones, which begin anew
--- with this part, or with nothing.
-local function gather(course, part, with_it)
-    local place, new, last = part.place, course.new, course.last
-    if part.number == 1 then course.is_stale = new.count > 0 end
-    local same, other, again, octets = last and last[part.number]
-    if same and same.kind == part.kind and same.octets == part.octets then
-        place.old = same.place
-    else
-        place.gathering, other, again, octets = new, turn(new, part)
-    end
-    place.again = again and not other and again.place or nil
-    place.misfit = octets and misfit(octets, part.is_up)
-    if other or place.misfit then
-        place.contradicted = other and other.place
-        begin(course, last, (other or with_it) and part or nil, other)
-        place.gathering = course.new
-    elseif octets then
-        course.gave = true
-        give(course, new, octets, place)
-    elseif course.all then
-        local others, _, whole = turn(course.all, part)
-        if others or whole and misfit(whole, part.is_up) then
-            course.all = nil
-        elseif whole then
-            course.gave = true
-            give(course, course.all, whole, place)
-        end
-    end
-end
-
--- Takes a part of a name. The run looks first, and only if it doesn't give a message, the others.
-local function take(course, part)
-    local run, place, new = run_with(course, part), part.place, course.new
-    local octets = run and joined(run)
-    local is_told = octets and course.gave and octets == course.octets
-    if not octets or is_told or misfit(octets, part.is_up) then
-        gather(course, part, not octets)
-        return
-    end
-    place.given_up = not are_own(course, run) and new or nil
-    give(course, run, octets, place, place.given_up)
-end
-
-local packet
-
--- The place of a part of a name, which is taken where it is seen first. A frame may have several datagrams.
-local function place_of(name, part, at)
-    local key = table.concat({at.pinfo.number, at.offset, at.number, name, part.number}, ":")
-    if not places[key] then
-        part.place = {frame = at.pinfo.number, messages = {}}
-        courses[name] = courses[name] or {run = set_of(), new = set_of(), is_stale = false}
-        take(courses[name], part)
-        places[key] = part.place
+-- The frame of the first part of a part's message, unless that didn't come before. A frame may have several datagrams.
+local function first_frame(name, kind, at)
+    local key = table.concat({at.pinfo.number, at.offset, at.number}, ":")
+    if places[key] == nil then
+        if kind == 1 then firsts[name] = at.pinfo.number end
+        places[key] = firsts[name] or false
     end
     return places[key]
-end
-
--- The last of these places that is of no message. One that is of a message stays so, and isn't looked at again.
-local function last_lost(set)
-    while set.lost > 0 and #set.places[set.lost].messages > 0 do set.lost = set.lost - 1 end
-    return set.places[set.lost]
-end
-
--- Tells what is missing behind all frames, or so far at a last part.
-local function show_missing(place, part, at, node)
-    local set = place.gathering
-    if not set or set.is_done or last_lost(set) ~= place then return end
-    if not at.pinfo.visited and part.kind ~= LAST then return end
-    local missing = set.missing or missing_parts(set)
-    local text = (at.pinfo.visited and "Missing parts: " or "Missing parts so far: ") .. missing
-    if set.behind then text = text .. ", but for those that are as in the message whole in frame " .. set.behind end
-    node:add(m.missing, missing):set_generated()
-    node:add_proto_expert_info(x.missing, text)
-end
-
--- Whether a part that came before is of the same message then and now, as far as is known.
-local function is_repeat(place)
-    local is_same = #place.messages == 0
-    for _, one in ipairs(place.messages) do
-        for _, other in ipairs(place.again.messages) do is_same = is_same or one == other end
-    end
-    return is_same
-end
-
--- Tells what is known of a part in its frame.
-local function show_place(place, part, at, node)
-    local messages = #place.messages == 0 and place.again and place.again.messages or place.messages
-    for _, message in ipairs(messages) do
-        node:add(m.first, message.first):set_generated()
-        node:add(m.whole, message.whole):set_generated()
-    end
-    local first = place.gathering and place.gathering.places[1]
-    if #messages == 0 and first then node:add(m.first, first.frame):set_generated() end
-    if place.again and is_repeat(place) then
-        node:add_proto_expert_info(x.again, "The part came before, in frame " .. place.again.frame)
-    elseif place.old and #messages == 0 then
-        local text = "The part is as in frame " .. place.old.frame
-        node:add_proto_expert_info(x.again, text .. ": it came again, or the name is used anew")
-    end
-    if place.contradicted then
-        local text = "The part contradicts the one in frame " .. place.contradicted.frame
-        node:add_proto_expert_info(x.contradiction, text .. ": another message of this name begins")
-    end
-    if place.misfit then
-        local text = "What was joined is " .. place.misfit .. "; reading begins anew"
-        node:add_proto_expert_info(x.unfit, text)
-    end
-    if place.given_up then
-        local text = "Parts from frame " .. place.given_up.places[1].frame .. " on are given up for this message"
-        node:add_proto_expert_info(x.given_up, text .. "; missing of them: " .. place.given_up.missing)
-    end
-    show_missing(place, part, at, node)
-    if not place.octets then return "" end
-    local whole = ByteArray.new(place.octets, true):tvb("Large message")()
-    node:add(m.length, whole:len()):set_generated()
-    return ", whole: " .. packet(whole, nil, {pinfo = at.pinfo, root = at.root, is_joined = true})
 end
 
 -- Where a part's number stands in a body, how wide it is, and where its octets begin.
@@ -1009,21 +774,18 @@ local function part_body(kind)
             end
             return "part unread"
         end
-        local part = {kind = kind, number = body(after, width):uint(), octets = body:raw(start)}
         tree:add(m.kind, kind):set_generated()
-        tree:add(m.octets, #part.octets):set_generated()
+        tree:add(m.octets, body:len() - start):set_generated()
         tree:add(m.data, body(start))
-        part.is_up = head.kind == TELECOMMAND
-        local name = string.format("%s %d/%.0f", part.is_up and "up" or "down", head.peer, body(0, after):uint())
-        tree:append_text(string.format(", %s, part %d", name, part.number))
-        local said = string.format("%s part %d of %s", KINDS[kind], part.number, name)
+        local way, number = head.kind == TELECOMMAND and "up" or "down", body(after, width):uint()
+        local name = string.format("%s %d/%.0f", way, head.peer, body(0, after):uint())
+        local message = string.format("%s of APID %d", name, head.apid)
+        tree:add(m.message, message):set_generated()
+        tree:append_text(string.format(", %s, part %d", name, number))
         -- A datagram that an error quotes was sent before.
-        if at.is_joined or head.fault or at.pinfo.in_error_pkt then return said end
-        if not layout.checksum then
-            tree:add_proto_expert_info(x.alone, "Parts without a checksum are joined by lpt alone")
-            return said
-        end
-        return said .. show_place(place_of(head.apid .. " " .. name, part, at), part, at, tree)
+        local first = not head.fault and not at.pinfo.in_error_pkt and first_frame(message, kind, at)
+        if first then tree:add(m.first, first):set_generated() end
+        return string.format("%s part %d of %s", KINDS[kind], number, name)
     end
 end
 
@@ -1207,10 +969,9 @@ end
 
 -- Shows a packet, or octets that fail this test of one, and says what they are. `at` is where they stand: the
 -- frame, the root of its tree, where the record or datagram begins there and the packet's number in that, whether its
--- header says where it ends, and whether it is a packet all the same; or a message that was joined.
-function packet(octets, fault, at)
+-- header says where it ends, and whether it is a packet all the same.
+local function packet(octets, fault, at)
     local tree = at.root:add(pus, octets)
-    if at.is_joined then tree:append_text(", joined") end
     tree:add(p.length, octets:len()):set_generated()
     local head = octets:len() >= 7 and primary_header(octets, tree)
     if fault and (fault ~= CHECKSUM or not at.is_piece) then return show_fault(fault, tree, at.is_sound) end
