@@ -173,17 +173,16 @@ def _of_one_shape(shapes: Any, starts: Any, lengths: Any) -> Iterator[Any]:
     for of_length in numpy.split(order, numpy.flatnonzero(numpy.diff(lengths[order])) + 1):
         length = int(lengths[of_length[0]])
         if length:
-            marks = _marks(_rows(shapes, starts[of_length], length))
+            marks = _marks(shapes, starts[of_length], length)
             inner = numpy.argsort(marks, kind="stable")
             yield from numpy.split(of_length[inner], numpy.flatnonzero(numpy.diff(marks[inner])) + 1)
 
 
-def _marks(rows: Any) -> Any:
-    """A number of 64 bits for each row, another one for another row."""
-    count, length = rows.shape
-    words = numpy.zeros((count, -(-length // 8)), numpy.uint64)
-    words.view(numpy.uint8)[:, :length] = rows
-    return words @ _FACTORS[: words.shape[1]]
+def _marks(octets: Any, starts: Any, length: int) -> Any:
+    """A number of 64 bits for each of these lines, another one for another line. No line is shorter than 8 octets."""
+    words = _rows(octets, starts, length // 8 * 8).view(numpy.uint64)
+    last = _rows(octets, starts + (length - 8), 8).view(numpy.uint64)[:, 0]
+    return words @ _FACTORS[: words.shape[1]] + last * _FACTORS[-1]
 
 
 def _texts(found: list[tuple[int, Any]]) -> Any:

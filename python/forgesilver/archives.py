@@ -42,7 +42,7 @@ COLUMNS = (
     "start_address", "area_length", "request_id", "failure_code", "failure_reason", "sequence_flags",
     "fault_code", "fault",
 )
-_TEXTS = {"packet_type", "spare", "part", "request_id", "failure", "failure_reason", "sequence_flags", "fault"}
+_TEXTS = {"packet_type", "spare", "part", "request_id", "failure", "sequence_flags", "fault"}
 _PIECE = 8 << 20
 # What `join` says of a message that isn't whole or isn't given, and `extract` of addresses.
 _LOST = re.compile(r"lpt: (?:up|down) (?:(\d+)/)?(\d+): (?:from octet (\d+) on, )?(?:missing parts: [\d/]+:(\S+)|(.*))$")
