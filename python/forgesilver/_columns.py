@@ -108,8 +108,8 @@ class Columns:
 
     def _column(self, found: list[tuple[Any, Any]]) -> tuple[Any, Any]:
         """A column of what lines have."""
-        kinds = {it.dtype for _, it in found}
-        kind = numpy.result_type(*kinds) if len({it.kind for it in kinds}) == 1 else numpy.dtype(object)
+        kinds = {it.dtype.str for _, it in found}
+        kind = numpy.dtype(min(kinds) if len(kinds) == 1 else "M8[us]" if "<M8[us]" in kinds else object)
         values: Any = numpy.full(self.count, None, object) if kind == object else numpy.zeros(self.count, kind)
         has: Any = numpy.zeros(self.count, bool)
         for at, its in found:

@@ -33,7 +33,7 @@ Archive = Union[str, "os.PathLike[str]", Octets]
 Archives = Union[Archive, Sequence[Archive]]
 
 #: The columns of `packets`: the names of `lpt list --json`. Those of _TEXTS are texts, `date` is a date, and all else are
-#: numbers, but for `time`, which is hexadecimal digits where a layout has a time of more than 4 octets.
+#: numbers, but for `time`, which is hexadecimal digits where a layout's time has a code or more than 4 octets.
 COLUMNS = (
     "place", "length", "packet_type", "application_process_id", "packet_sequence_count",
     "acknowledgement_flags", "spacecraft_time_reference_status", "service_type", "message_subtype",
@@ -180,12 +180,14 @@ def messages(
     """The messages that `lpt join --each` joins, and what came of those that aren't whole: of all APIDs and both
     directions, or only of this one. They come APID by APID, those of each as the program tells them.
 
-    With `any` a message may be any octets; otherwise it is a packet of its direction."""
+    With `any` a message may be any octets; otherwise it is a packet of its direction. `lpt list` says which APIDs and
+    directions have parts. If only one of a layout's tables has a checksum, it reads up to damage: then name both."""
     asked = None if direction is None else Direction(direction)
     options = _options(layout, part_size)
     with _Given(paths) as given:
-        dates = _Dates(["list", "--json", *options, *given.words])
-        for its_direction, its_apid in dates.pairs:
+        dates = _Dates(["list", "--json", "--quiet", *options, *given.words])
+        pairs = dates.pairs if asked is None or apid is None else [(asked, apid)]
+        for its_direction, its_apid in pairs:
             if asked in (None, its_direction) and apid in (None, its_apid):
                 words = ["--apid", f"{its_apid}", *options, *["--any"] * bool(any), *given.words]
                 yield from _joined(its_direction, its_apid, words, dates)
@@ -291,7 +293,7 @@ def _printed(words: list[str]) -> Iterator[bytes]:
         text = said.read().decode(errors="replace")
     if running.returncode not in program.DONE:
         raise program.failure(words[0], running.returncode, text)
-    _warn(_said(text))
+    _warn(_said(text), 6)
 
 
 def _said(text: str) -> list[str]:
@@ -300,10 +302,10 @@ def _said(text: str) -> list[str]:
     return [it for it in text.splitlines() if not it.startswith(passed)]
 
 
-def _warn(said: Iterable[str]) -> None:
-    """Warns of what the program said."""
+def _warn(said: Iterable[str], level: int) -> None:
+    """Warns the caller, so many calls above, of what the program said."""
     for it in said:
-        warnings.warn(it, ProgramWarning, 4)
+        warnings.warn(it, ProgramWarning, level)
 
 
 def _needed(module: str) -> Any:
@@ -395,9 +397,7 @@ class _Dates:
 
     def __init__(self, words: list[str]) -> None:
         names = ["place", "packet_type", "application_process_id", "date", "part"]
-        with warnings.catch_warnings():
-            warnings.simplefilter("ignore", ProgramWarning)
-            _, found = _read(words, names)
+        _, found = _read(words, names)
         self._places: Any = None
         self.pairs: list[tuple[Direction, int]] = []
         if "part" not in found:
@@ -415,7 +415,8 @@ class _Dates:
         if place is None or self._places is None:
             return None
         at = self._places.searchsorted(place)
-        found: Optional[datetime.datetime] = self._dates[at].astype("M8[us]").item() if at < len(self._places) else None
+        is_there = at < len(self._places) and self._places[at] == place
+        found: Optional[datetime.datetime] = self._dates[at].astype("M8[us]").item() if is_there else None
         return found
 
 
@@ -436,7 +437,7 @@ def _joined(direction: Direction, apid: int, words: list[str], dates: _Dates) ->
             numbers[stem] += 1
             yield Message(name, file.read_bytes(), it.get("at"), first, dates.date(it.get("at")))
             file.unlink()
-    _warn(it for it in _said(ran.said) if not _LOST.match(it))
+    _warn((it for it in _said(ran.said) if not _LOST.match(it)), 4)
 
 
 def _told(ran: program.Ran, place: pathlib.Path) -> list[dict[str, Any]]:
