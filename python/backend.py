@@ -43,7 +43,8 @@ def _metadata(project: dict[str, str]) -> str:
         f"Summary: {project['description']}", "Author: Forgesilver", "License: none is given yet",
         "Platform: linux", "Classifier: Operating System :: POSIX :: Linux", "Classifier: Typing :: Typed",
         "Classifier: Topic :: Scientific/Engineering", f"Requires-Python: {project['requires-python']}",
-        "Description-Content-Type: text/markdown",
+        "Description-Content-Type: text/markdown", "Provides-Extra: plot",
+        "Requires-Dist: matplotlib>=3.6; extra == 'plot'",
     ]
     return "\n".join([*heads, "", (HERE / "README.md").read_text(encoding="utf-8")])
 
@@ -102,7 +103,7 @@ def build_wheel(wheel_directory: str, config_settings: object = None, metadata_d
     project["version"] += mark
     name, tag = f"{project['name']}-{project['version']}", f"py3-none-{platform}"
     files = {f"forgesilver/{it}": (octets, 0o755) for it, octets in built.items()}
-    files.update({f"forgesilver/{it.name}": (it.read_bytes(), 0o644) for it in (HERE / "forgesilver").iterdir()
+    files.update({f"{it.relative_to(HERE)}": (it.read_bytes(), 0o644) for it in (HERE / "forgesilver").rglob("*")
                   if it.suffix in (".py", ".typed")})
     listed = ""
     with zipfile.ZipFile(pathlib.Path(wheel_directory, f"{name}-{tag}.whl"), "w") as wheel:

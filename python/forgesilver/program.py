@@ -62,11 +62,16 @@ def failure(command: str, status: int, said: str) -> ProgramError:
     return ProgramError(said.strip() or f"lpt {command} ended with {end}", status)
 
 
-def start(*words: Word, stdin: IO[bytes] | int, said: IO[bytes]) -> subprocess.Popen[bytes]:
-    """A started command whose standard output is a pipe. What it says goes to the file `said`, which never fills."""
+def start(
+    *words: Word, stdin: IO[bytes] | int, said: IO[bytes], apart: bool = False
+) -> subprocess.Popen[bytes]:
+    """A started command whose standard output is a pipe. What it says goes to the file `said`, which never fills.
+    An interrupt at the terminal, as by Ctrl-C, doesn't reach a command that is `apart`."""
     command = path()
     try:
-        return subprocess.Popen([command, *words], stdin=stdin, stdout=subprocess.PIPE, stderr=said)
+        return subprocess.Popen(
+            [command, *words], stdin=stdin, stdout=subprocess.PIPE, stderr=said, start_new_session=apart
+        )
     except OSError as error:
         raise ProgramError(f"{command}: {error.strerror}") from error
 
