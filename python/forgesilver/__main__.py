@@ -43,8 +43,10 @@ def _commands() -> argparse.ArgumentParser:
 
 def _chart(asked: argparse.Namespace, options: list[str]) -> int:
     """Writes a picture."""
-    from . import plot
-
+    try:
+        from . import plot
+    except ModuleNotFoundError as error:
+        raise ValueError(f"pictures need matplotlib: {error}") from error
     look = {"title": asked.title, "theme": asked.theme}
     script: Union[str, bytes] = asked.script
     if asked.stream:
@@ -81,9 +83,6 @@ def main() -> int:
     except ProgramError as error:
         print(error, file=sys.stderr)
         return error.status if error.status in (2, 3) else 3
-    except ModuleNotFoundError as error:
-        print(f"forgesilver: pictures need matplotlib: {error}", file=sys.stderr)
-        return 3
     except ValueError as error:
         print(f"forgesilver: {error}", file=sys.stderr)
         return 2

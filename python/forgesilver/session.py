@@ -82,7 +82,12 @@ class Session:
         with contextlib.suppress(BrokenPipeError):
             self._asked.close()
         self._printed.close()
-        self._program.wait()
+        try:
+            self._program.wait(1)
+        except subprocess.TimeoutExpired:
+            # It is busy with a line whose answer nobody awaits.
+            self._program.kill()
+            self._program.wait()
         self._said.close()
 
     def __enter__(self) -> Session:

@@ -36,6 +36,9 @@ GREETING = "help tells the lines, Tab completes them, Ctrl-D ends the session"
 MOST_KEPT = 1000
 # Why the program can't read a line, and in which column.
 _REASON = re.compile(r"^lpt: .*?:\d+:(\d+): (.*)$", re.MULTILINE)
+# What stands for several numbers.
+_LIST = re.compile(r"all|(?=.*[-,])\d+(-\d+)?(,\d+(-\d+)?)*")
+MOST_NUMBERS = 65535
 _COLOURS = {"bad": "31", "good": "32", "faint": "2"}
 
 
@@ -147,7 +150,7 @@ class Shell(cmd.Cmd):
             self._told(f"{opened[1]} {octets.hex() or '-'}")
         elif len(words) == 3 and words[0] == "pass" and words[2] == "all":
             self._pass_all(words[1])
-        elif len(words) > 1 and words[0] in ("send", "pass", "lose") and re.search(r"[-,]|^all$", words[-1]):
+        elif len(words) > 1 and words[0] in ("send", "pass", "lose") and _LIST.fullmatch(words[-1]):
             for number in self._numbers(words):
                 self._told(" ".join([*words[:-1], f"{number}"]))
         else:
@@ -158,18 +161,19 @@ class Shell(cmd.Cmd):
         self._say(line, "faint")
         self.answer(line)
 
-    def _numbers(self, words: list[str]) -> Iterator[int]:
+    def _numbers(self, words: list[str]) -> list[int]:
         """The numbers of a list as `1-3,5`, or of all parts of a message."""
         if words[-1] == "all":
             name = f"open {' '.join(words[1:-1])} parts "
             parts = [int(it[len(name):]) for it in self._ask("show senders") if it.startswith(name)]
             if not parts:
                 raise ValueError("no such message is open; show senders tells which are")
-            yield from range(1, parts[0] + 1)
-            return
-        for pair in words[-1].split(","):
-            first, _, last = pair.partition("-")
-            yield from range(int(first), int(last or first) + 1)
+            return list(range(1, parts[0] + 1))
+        ends = [it.partition("-") for it in words[-1].split(",")]
+        spans = [range(int(first), int(last or first) + 1) for first, _, last in ends]
+        if sum(map(len, spans)) > MOST_NUMBERS:
+            raise ValueError(f"a list has {MOST_NUMBERS} numbers at most")
+        return [number for it in spans for number in it]
 
     def _pass_all(self, lane: str) -> None:
         """Passes each packet that goes the lane's way, and that no lane has taken yet."""
@@ -205,7 +209,7 @@ class Shell(cmd.Cmd):
     def _chart(self, path: str = "run.svg") -> None:
         try:
             from . import plot
-        except ImportError as error:
+        except ModuleNotFoundError as error:
             raise ValueError(f"pictures need matplotlib: {error}") from error
         plot.save(plot.run(self._script(), *self._options, title="A session"), pathlib.Path(path).expanduser())
         self._say(f"drawn in {path}", "faint")

@@ -26,7 +26,7 @@ KINDS = {
     (1, 6): "no progress", (1, 7): "completed", (1, 8): "not completed", (13, 16): "aborted",
 }
 REASONS = {"1": "expired", "2": "discontinuity", "3": "conflict"}
-# The options of `run` that `list` takes too.
+# The options that say how large a part is.
 _OF_LISTS = ("--config", "--part-size")
 
 
@@ -192,6 +192,7 @@ class Telling:
         self.story = Story(title)
         self._open: dict[tuple[str, str, str], Bar] = {}
         self._hands: dict[str, Flight] = {}
+        self._taken: set[int] = set()
         # Each job, in the order of release; and the rows that executed one.
         self._jobs: list[Bar] = []
         self._applied: list[tuple[Row, Bar]] = []
@@ -230,9 +231,9 @@ class Telling:
         said = row.said.split()
         if said[0] == "took":
             number = int(said[1])
-            flight = Flight(number, words[1], place, again=any(it.packet == number for it in story.flights))
-            self._hands[words[1]] = flight
-            story.flights.append(flight)
+            self._hands[words[1]] = Flight(number, words[1], place, again=number in self._taken)
+            self._taken.add(number)
+            story.flights.append(self._hands[words[1]])
         elif words[0] in ("deliver", "pass"):
             self._hands.pop(words[1]).landed = place
         elif said[0] == "lost":
@@ -308,8 +309,7 @@ class Telling:
         shown = [[b"show packet %d" % it.number for it in packets], [b"show released"]]
         found, _ = answer_all([lines, *shown], *options)
         octets = [_octets(it) for it in found[1].printed]
-        wide = [it for k, it in enumerate(options) if it in _OF_LISTS or k and options[k - 1] in _OF_LISTS]
-        listed = {it["place"]: it for it in rows("list", "--json", *wide, octets=b"".join(octets))}
+        listed = {it["place"]: it for it in rows("list", "--json", *_of_lists(options), octets=b"".join(octets))}
         for packet, place in zip(packets, itertools.accumulate(map(len, octets), initial=0)):
             packet.fields = listed[place]
         released = [it for it in found[2].printed if it.startswith(("plain", "up"))]
@@ -320,6 +320,15 @@ class Telling:
             if row.word == "opened":
                 row.note = "6,2 load" if words[0] == "load" else kind_of(first_of(_octets(row.asked)))
         return self.story
+
+
+def _of_lists(options: Sequence[Word]) -> Iterator[Word]:
+    """The options of `run` that `list` needs too, with their values."""
+    before = ""
+    for it in map(str, options):
+        if it.partition("=")[0] in _OF_LISTS or before in _OF_LISTS:
+            yield it
+        before = it
 
 
 def _octets(line: str) -> bytes:

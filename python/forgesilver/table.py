@@ -3,6 +3,7 @@
 from __future__ import annotations
 
 import os
+import shutil
 import sys
 from collections.abc import Iterator
 from typing import Any
@@ -51,6 +52,6 @@ def main(files: list[str], *options: Word) -> int:
     is_there = sys.stdout.isatty()
     coloured = is_there and not os.environ.get("NO_COLOR") and os.environ.get("TERM", "dumb") != "dumb"
     packets = list(rows("list", "--json", *files, *options))
-    for text in table(packets, os.get_terminal_size().columns if is_there else 0, coloured=coloured):
+    for text in table(packets, shutil.get_terminal_size().columns if is_there else 0, coloured=coloured):
         print(text)
     return 0

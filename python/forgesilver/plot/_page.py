@@ -13,6 +13,7 @@ from typing import Any, Union
 
 import matplotlib  # type: ignore[import]
 from matplotlib.backends.backend_agg import FigureCanvasAgg  # type: ignore[import]
+from matplotlib.collections import PolyCollection  # type: ignore[import]
 from matplotlib.figure import Figure  # type: ignore[import]
 from matplotlib.patches import FancyBboxPatch, Rectangle  # type: ignore[import]
 
@@ -118,6 +119,11 @@ class Page:
             at = FancyBboxPatch((x, y), wide, high, boxstyle=f"round,pad=0,rounding_size={corner}", **look)
         self.axes.add_patch(at)
         self._tip(at, tip)
+
+    def boxes(self, boxes: Sequence[tuple[float, float, float, float]], fill: str, z: float) -> None:
+        """Many rectangles of one colour, each by its upper left corner, width and height."""
+        corners = [[(x, y), (x + wide, y), (x + wide, y + high), (x, y + high)] for x, y, wide, high in boxes]
+        self.axes.add_collection(PolyCollection(corners, facecolors=self.colours[fill], linewidths=0, zorder=z))
 
     def _tip(self, artist: Any, tip: str) -> None:
         """What stands under the pointer over a thing."""

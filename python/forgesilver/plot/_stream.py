@@ -13,8 +13,10 @@ from ..program import Word
 from ._page import WIDE, Page, Picture, cut, plural
 
 LEFT, WIDTH, TOP, FOOT, GAP = 92.0, 560.0, 74.0, 22.0, 20.0
-# So many letters of what lacks are drawn.
-LETTERS = 34
+# So many letters of what lacks are drawn, and so many names.
+LETTERS, MOST_NAMES = 34, 100
+# So many parts of a name say what they are under the pointer.
+MOST_TOLD = 1000
 
 
 def spans(text: str, last: int) -> list[tuple[int, int]]:
@@ -46,15 +48,17 @@ class Drawing:
 
     def __init__(self, story: Archive, title: str, theme: str) -> None:
         self.story = story
-        strips = [Strip(it) for it in story.transfers.values()]
+        strips = [Strip(it) for it in list(story.transfers.values())[:MOST_NAMES]]
         bottom = TOP + sum(it.tall + GAP for it in strips) + 3 * FOOT + 26
         right = max([len(text) for it in strips for text, _ in it.said()] + [14]) * 7.6 * WIDE + 36
         self.page = Page(LEFT + WIDTH + right, bottom + 58, theme)
         parts = sum(len(it.parts) for it in story.transfers.values())
         whole = sum(len(it.whole) for it in story.transfers.values())
         packets = sum(it.get("packet_type", "none") != "none" for it in story.packets)
-        counts = {"packet": packets, "octet": story.octets, "name": len(strips), "part": parts, "whole message": whole}
-        self.page.title([title], ", ".join(plural(count, word) for word, count in counts.items()))
+        names = len(story.transfers)
+        counts = {"packet": packets, "octet": story.octets, "name": names, "part": parts, "whole message": whole}
+        said = ", ".join(plural(count, word) for word, count in counts.items())
+        self.page.title([title], said + f"; the first {MOST_NAMES} names" * (names > MOST_NAMES))
         self._scale(TOP - 8, bottom - 22)
         y = TOP
         for strip in strips:
@@ -93,16 +97,26 @@ class Drawing:
                 wide = LEFT + WIDTH - self._x(first)
                 page.box(self._x(first), low, wide, max(high - low, 1), "badfill", z=0.7, tip=tip)
                 page.mark(LEFT + WIDTH, (low + high) / 2, "<", 4.5, "bad")
-        colour = "up" if name.startswith("up") else "down"
-        for part in transfer.parts:
-            number, place = part["part_sequence_number"], part["place"]
-            wide = max(self._x(part["length"]) - LEFT, 1.2)
-            tip = f"{name} part {number}, octet {place}"
-            page.box(self._x(place), end - step * number, wide, max(step - 0.6, 0.8), colour, z=2, tip=tip)
+        self._parts(strip, end)
         said = strip.said()
         for n, (text, colour) in enumerate(said):
             middle = y + strip.tall / 2 + 11 * (n - (len(said) - 1) / 2)
             page.text(LEFT + WIDTH + 12, middle, text, colour, 7.6, bold=True)
+
+    def _parts(self, strip: Strip, end: float) -> None:
+        """The parts of a name, of which this is the lower end."""
+        name, colour = strip.transfer.name, "up" if strip.transfer.name.startswith("up") else "down"
+        boxes = []
+        for part in strip.transfer.parts:
+            number, place = part["part_sequence_number"], part["place"]
+            wide, high = max(self._x(part["length"]) - LEFT, 1.2), max(strip.step - 0.6, 0.8)
+            boxes.append((self._x(place), end - strip.step * number, wide, high))
+        if len(boxes) > MOST_TOLD:
+            self.page.boxes(boxes, colour, 2)
+            return
+        for box, part in zip(boxes, strip.transfer.parts):
+            tip = f"{name} part {part['part_sequence_number']}, octet {part['place']}"
+            self.page.box(*box, colour, z=2, tip=tip)
 
     def _others(self, y: float) -> None:
         """The packets without a part, the damaged ones, and what is no packet."""
