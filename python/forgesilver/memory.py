@@ -8,7 +8,7 @@ from __future__ import annotations
 
 from ctypes import addressof, byref
 from dataclasses import dataclass
-from typing import Any, ClassVar, Sequence, Union
+from typing import ClassVar, Sequence, Union
 
 from . import _library
 from ._library import LONGEST_PACKET, Given, Held, Octets, Room, number, of_kind, piece_of
@@ -97,7 +97,8 @@ class _OfAreas(_Request):
 
     memory: int
     areas: Sequence[Area]
-    _write: ClassVar[Any]
+    #: The library's call that writes it.
+    _writer: ClassVar[str]
 
     def body(self) -> bytes:
         """The body of the request's message. Raises `BadArea` or `Range`."""
@@ -108,9 +109,8 @@ class _OfAreas(_Request):
         ]
         ranges = (_library.LptRange * (len(places) or 1))(*places)
         room = Room(2 + 6 * len(places))
-        raise_fault(
-            self._write(memory, addressof(ranges), len(places), room.at, room.len, room.needs)
-        )
+        write = getattr(_codecs, self._writer)
+        raise_fault(write(memory, addressof(ranges), len(places), room.at, room.len, room.needs))
         return room.octets()
 
 
@@ -120,7 +120,7 @@ class Dump(_OfAreas):
     area has at most 65,513 octets. A `Job` cuts longer ones."""
 
     subtype: ClassVar[int] = 5
-    _write: ClassVar[Any] = staticmethod(_codecs.lpt_write_dump)
+    _writer: ClassVar[str] = "lpt_write_dump"
 
 
 @dataclass(frozen=True)
@@ -128,7 +128,7 @@ class Check(_OfAreas):
     """A check: asks for the checksums of areas of a memory."""
 
     subtype: ClassVar[int] = 9
-    _write: ClassVar[Any] = staticmethod(_codecs.lpt_write_check)
+    _writer: ClassVar[str] = "lpt_write_check"
 
 
 #: A request of a memory.
