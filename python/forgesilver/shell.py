@@ -9,11 +9,12 @@ from __future__ import annotations
 import cmd
 import contextlib
 import io
+import itertools
 import os
 import pathlib
 import re
 import sys
-from collections.abc import Callable, Iterator
+from collections.abc import Callable, Iterable, Iterator
 from typing import Any
 
 from .lines import FAULTS, FORMS, KINDS, wanted
@@ -37,7 +38,7 @@ MOST_KEPT = 1000
 # Why the program can't read a line, and in which column.
 _REASON = re.compile(r"^lpt: .*?:\d+:(\d+): (.*)$", re.MULTILINE)
 # What stands for several numbers.
-_LIST = re.compile(r"all|(?=.*[-,])\d+(-\d+)?(,\d+(-\d+)?)*")
+_LIST = re.compile(r"(?=.*[-,])\d+(-\d+)?(,\d+(-\d+)?)*")
 MOST_NUMBERS = 65535
 _COLOURS = {"bad": "31", "good": "32", "faint": "2"}
 
@@ -69,17 +70,17 @@ class Shell(cmd.Cmd):
 
     def onecmd(self, line: str) -> bool:
         """Answers a line; whether the session ends."""
-        words = line.split()
+        word, _, rest = line.strip().partition(" ")
         if line == "EOF" and self.prompt:
             print()
-        if line == "EOF" or words[:1] in (["exit"], ["quit"]):
+        if word in ("EOF", "exit", "quit"):
             return True
         own: dict[str, Callable[..., None]] = {
             "undo": self._undo, "save": self._save, "chart": self._chart, "help": self._help,
         }
         try:
-            if words and words[0] in own:
-                own[words[0]](*words[1:2])
+            if word in own:
+                own[word](*[rest.strip()] * bool(rest))
             else:
                 self._expanded(line)
         except (ValueError, OSError) as error:
@@ -89,22 +90,33 @@ class Shell(cmd.Cmd):
 
     # Answers.
 
-    def answer(self, line: str) -> None:
-        """Asks a line of a script, prints what it prints, and keeps it if it did something."""
-        try:
-            printed = self._ask(line)
-        except ProgramError as error:
-            found = _REASON.search(str(error))
-            if error.status != UNREADABLE or found is None:
-                raise
-            self._unreadable(int(found[1]), found[2])
-            self._again(self.lines)
-            return
+    def answer(self, line: str, *, is_typed: bool = False) -> None:
+        """Answers a line of a script, which stands behind the prompt if it was typed."""
+        self._tell(self._tried(line, is_typed))
+
+    def _tell(self, printed: list[str]) -> None:
+        """Prints what a line printed, and explains refusals."""
         for text in printed:
             self._say(text, _look(text))
             if text.startswith("refused"):
                 self.status = 1
                 self._say(f"  {FAULTS.get(text.split()[-1], '')}", "faint")
+
+    def _tried(self, line: str, is_typed: bool = False) -> list[str]:
+        """What a line prints. If it can't be read, it says why, and begins a new world."""
+        try:
+            return self._ask(line)
+        except ProgramError as error:
+            found = _REASON.search(str(error))
+            if error.status != UNREADABLE or found is None:
+                raise
+        self.status, column, why = 1, int(found[1]), found[2]
+        if is_typed and self.prompt:
+            self._say(f"{' ' * (len(self.prompt) + column - 1)}^ {why}", "bad")
+        else:
+            self._say(f"unreadable at {column}: {why}", "bad")
+        self._again(self.lines)
+        return []
 
     def _ask(self, line: str) -> list[str]:
         """What a line prints. It is kept if it did something."""
@@ -114,14 +126,6 @@ class Shell(cmd.Cmd):
             self.lines.append(line)
             self._taken.update(int(it.split()[1]) for it in printed if it.startswith("took"))
         return printed
-
-    def _unreadable(self, column: int, why: str) -> None:
-        """Says why a line can't be read: at a terminal below the column."""
-        self.status = 1
-        if self.prompt:
-            self._say(f"{' ' * (len(self.prompt) + column - 1)}^ {why}", "bad")
-        else:
-            self._say(f"unreadable at {column}: {why}", "bad")
 
     def _again(self, lines: list[str]) -> None:
         """Begins a new world, in which these lines are repeated."""
@@ -148,32 +152,32 @@ class Shell(cmd.Cmd):
             path = opened[3]
             octets = pathlib.Path(path).expanduser().read_bytes() if path else opened[2].encode()
             self._told(f"{opened[1]} {octets.hex() or '-'}")
-        elif len(words) == 3 and words[0] == "pass" and words[2] == "all":
+        elif words[:1] == ["pass"] and words[2:] == ["all"]:
             self._pass_all(words[1])
-        elif len(words) > 1 and words[0] in ("send", "pass", "lose") and _LIST.fullmatch(words[-1]):
-            for number in self._numbers(words):
-                self._told(" ".join([*words[:-1], f"{number}"]))
+        elif words[:1] == ["send"] and words[3:] == ["all"]:
+            self._told_each(words, self._parts(words[1], words[2]))
+        elif words[:1] in (["send"], ["pass"], ["lose"]) and _LIST.fullmatch(words[-1]):
+            self._told_each(words, _numbers(words[-1]))
         else:
-            self.answer(line)
+            self.answer(line, is_typed=True)
 
     def _told(self, line: str) -> None:
         """Prints a line, and answers it."""
         self._say(line, "faint")
         self.answer(line)
 
-    def _numbers(self, words: list[str]) -> list[int]:
-        """The numbers of a list as `1-3,5`, or of all parts of a message."""
-        if words[-1] == "all":
-            name = f"open {' '.join(words[1:-1])} parts "
-            parts = [int(it[len(name):]) for it in self._ask("show senders") if it.startswith(name)]
-            if not parts:
-                raise ValueError("no such message is open; show senders tells which are")
-            return list(range(1, parts[0] + 1))
-        ends = [it.partition("-") for it in words[-1].split(",")]
-        spans = [range(int(first), int(last or first) + 1) for first, _, last in ends]
-        if sum(map(len, spans)) > MOST_NUMBERS:
-            raise ValueError(f"a list has {MOST_NUMBERS} numbers at most")
-        return [number for it in spans for number in it]
+    def _told_each(self, words: list[str], numbers: Iterable[int]) -> None:
+        """Answers a line for each of these numbers, which stands in place of its last word."""
+        for number in numbers:
+            self._told(" ".join([*words[:-1], f"{number}"]))
+
+    def _parts(self, direction: str, name: str) -> Iterable[int]:
+        """The numbers of an open message's parts."""
+        begin = f"open {direction} {name} parts "
+        for it in self._ask("show senders"):
+            if it.startswith(begin):
+                return range(1, int(it[len(begin):]) + 1)
+        raise ValueError("no such message is open; show senders tells which are")
 
     def _pass_all(self, lane: str) -> None:
         """Passes each packet that goes the lane's way, and that no lane has taken yet."""
@@ -181,18 +185,16 @@ class Shell(cmd.Cmd):
         for number in held:
             if number in self._taken:
                 continue
-            # The program says which way a packet goes: that it isn't held in the lane's direction changes nothing.
             line = f"take {lane} {number}"
-            printed = self._ask(line)
-            if printed[:1] and printed[0].endswith("NotHeld"):
-                continue
-            self._say(line, "faint")
-            for text in printed:
-                self._say(text, _look(text))
-            if printed[:1] and printed[0].startswith("refused"):
-                self.status = 1
-                break
-            self._told(f"deliver {lane}")
+            printed = self._tried(line)
+            # The program knows which way a packet goes, and a refusal changes nothing.
+            if not printed or not printed[0].endswith("NotHeld"):
+                self._say(line, "faint")
+                self._tell(printed)
+            if not printed or printed[0].startswith("refused") and not printed[0].endswith("NotHeld"):
+                return
+            if printed[0].startswith("took"):
+                self._told(f"deliver {lane}")
 
     # Lines of the shell alone.
 
@@ -249,6 +251,15 @@ class Shell(cmd.Cmd):
     def completenames(self, text: str, *ignored: object) -> list[str]:
         """The words with which lines begin."""
         return sorted({f"{it.split()[0]} " for it in [*FORMS, *OWN] if it.startswith(text)})
+
+
+def _numbers(text: str) -> Iterable[int]:
+    """The numbers of a list as `1-3,5`."""
+    ends = [it.partition("-") for it in text.split(",")]
+    spans = [range(int(first), int(last or first) + 1) for first, _, last in ends]
+    if sum(map(len, spans)) > MOST_NUMBERS:
+        raise ValueError(f"a list has {MOST_NUMBERS} numbers at most")
+    return itertools.chain.from_iterable(spans)
 
 
 def _look(text: str) -> str:

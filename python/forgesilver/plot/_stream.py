@@ -140,7 +140,8 @@ class Drawing:
         """What carries no part."""
         wide, is_damaged = max(end - x, 1.5), word == "damaged"
         colour = {"no packet": "ink", "damaged": "bad"}.get(word, "grey")
-        self.page.box(x, y - 5, wide, 10, "page" if is_damaged else colour, colour, 1.1, z=2, tip=tip.removesuffix(": "))
+        fill = "page" if is_damaged else colour
+        self.page.box(x, y - 5, wide, 10, fill, colour, 1.1, z=2, tip=tip.removesuffix(": "))
         if is_damaged:
             self.page.mark(x + wide / 2, y, "x", 5, "bad", width=1.4)
 
