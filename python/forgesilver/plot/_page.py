@@ -15,7 +15,9 @@ import matplotlib  # type: ignore[import]
 from matplotlib.backends.backend_agg import FigureCanvasAgg  # type: ignore[import]
 from matplotlib.collections import PolyCollection  # type: ignore[import]
 from matplotlib.figure import Figure  # type: ignore[import]
+from matplotlib.lines import Line2D  # type: ignore[import]
 from matplotlib.patches import FancyBboxPatch, Rectangle  # type: ignore[import]
+from matplotlib.text import Text  # type: ignore[import]
 
 #: A line's dashes, as matplotlib has them: `-`, or where they begin and how long they and their gaps are.
 Dashes = Union[str, "tuple[float, tuple[float, ...]]"]
@@ -76,34 +78,34 @@ class Page:
         bold: bool = False, sans: bool = False, tip: str = "", turn: float = 0,
     ) -> None:
         """A line of text, whose middle is at this height."""
-        at = self.axes.text(
+        at = Text(
             x, y, said.replace("$", r"\$"), color=self.colours[colour], fontsize=size, ha=align,
             va="center" if turn else "center_baseline", weight="bold" if bold else "normal",
             family=SANS if sans else MONO, rotation=turn, zorder=6,
         )
-        self._tip(at, tip)
+        self._add(at, tip)
 
     def line(
         self, xs: Sequence[float], ys: Sequence[float], colour: str, width: float = 1.4, dashes: Dashes = "-",
         z: float = 3, tip: str = "",
     ) -> None:
         """A line through these points."""
-        (at,) = self.axes.plot(
+        at = Line2D(
             xs, ys, color=self.colours[colour], linewidth=width, linestyle=dashes, zorder=z,
             solid_capstyle="round", dash_capstyle="butt", solid_joinstyle="round",
         )
-        self._tip(at, tip)
+        self._add(at, tip)
 
     def mark(
         self, x: float, y: float, shape: str, size: float, colour: str, fill: str | None = None,
         width: float = 1.3, tip: str = "",
     ) -> None:
         """A marker of matplotlib's, filled with its own colour if no other is given."""
-        (at,) = self.axes.plot(
+        at = Line2D(
             [x], [y], marker=shape, markersize=size, color=self.colours[colour], zorder=5, linestyle="none",
             markerfacecolor=self.colours[fill or colour], markeredgewidth=width,
         )
-        self._tip(at, tip)
+        self._add(at, tip)
 
     def box(
         self, x: float, y: float, wide: float, high: float, fill: str | None, edge: str | None = None,
@@ -117,16 +119,16 @@ class Page:
         at = Rectangle((x, y), wide, high, **look)
         if corner:
             at = FancyBboxPatch((x, y), wide, high, boxstyle=f"round,pad=0,rounding_size={corner}", **look)
-        self.axes.add_patch(at)
-        self._tip(at, tip)
+        self._add(at, tip)
 
     def boxes(self, boxes: Sequence[tuple[float, float, float, float]], fill: str, z: float) -> None:
         """Many rectangles of one colour, each by its upper left corner, width and height."""
         corners = [[(x, y), (x + wide, y), (x + wide, y + high), (x, y + high)] for x, y, wide, high in boxes]
-        self.axes.add_collection(PolyCollection(corners, facecolors=self.colours[fill], linewidths=0, zorder=z))
+        self._add(PolyCollection(corners, facecolors=self.colours[fill], linewidths=0, zorder=z))
 
-    def _tip(self, artist: Any, tip: str) -> None:
-        """What stands under the pointer over a thing."""
+    def _add(self, artist: Any, tip: str = "") -> None:
+        """Draws a thing, with what stands under the pointer over it."""
+        self.axes.add_artist(artist)
         if tip:
             name = f"tip{len(self.figure.tips)}"
             artist.set_gid(name)
