@@ -12,7 +12,7 @@ from collections.abc import Iterable, Iterator
 from types import TracebackType
 from typing import NamedTuple
 
-from .program import DONE, Word, failure, run, start
+from .program import DONE, ProgramError, Word, failure, run, start
 
 #: What a script can ask for with `--views`.
 VIEWS = ("show link", "show senders", "show receptions", "show jobs")
@@ -61,6 +61,12 @@ class Session:
         self._program = start(*COMMAND, *options, stdin=subprocess.PIPE, said=self._said, apart=True)
         assert self._program.stdin is not None and self._program.stdout is not None
         self._asked, self._printed = self._program.stdin, self._program.stdout
+        try:
+            # Options that the program refuses are told here.
+            self.ask("")
+        except ProgramError:
+            self.close()
+            raise
 
     def ask(self, line: str) -> list[str]:
         """What a line prints. `ProgramError` if it ends the world: `status` is `UNREADABLE` if it can't be read."""
