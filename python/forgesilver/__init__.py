@@ -18,7 +18,10 @@ The modules:
 - kinds: enumerations: kinds of packets, outcomes, reasons and so on
 - faults: an exception for each fault
 - archives: what archives have, as the program reads them: `packets`, `messages`, `image`, `outcomes`
+- plot: pictures of a script's run, of packets, and of a contact; it needs matplotlib, and isn't imported here
 - program: the program `lpt`, where it is and how it is run
+
+`python3 -m forgesilver` has the commands `chart`, `shell` and `list`.
 
 Octets are any object with a buffer: `bytes`, `bytearray`, `memoryview`, an array or a mapped file.
 `read_packet` and the other functions `read_..` return views if they get a `memoryview`, otherwise
