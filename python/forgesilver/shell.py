@@ -182,19 +182,23 @@ class Shell(cmd.Cmd):
     def _pass_all(self, lane: str) -> None:
         """Passes each packet that goes the lane's way, and that no lane has taken yet."""
         held = [int(it.split()[1]) for it in self._ask("show link") if it.startswith("held")]
+        passed = 0
         for number in held:
             if number in self._taken:
                 continue
             line = f"take {lane} {number}"
             printed = self._tried(line)
             # The program knows which way a packet goes, and a refusal changes nothing.
-            if not printed or not printed[0].endswith("NotHeld"):
-                self._say(line, "faint")
-                self._tell(printed)
-            if not printed or printed[0].startswith("refused") and not printed[0].endswith("NotHeld"):
+            if printed and printed[0].endswith("NotHeld"):
+                continue
+            self._say(line, "faint")
+            self._tell(printed)
+            if not printed or printed[0].startswith("refused"):
                 return
-            if printed[0].startswith("took"):
-                self._told(f"deliver {lane}")
+            self._told(f"deliver {lane}")
+            passed += 1
+        if not passed:
+            self._say("none", "faint")
 
     # Lines of the shell alone.
 
