@@ -191,9 +191,11 @@ class Shell(cmd.Cmd):
             # The program knows which way a packet goes, and a refusal changes nothing.
             if printed and printed[0].endswith("NotHeld"):
                 continue
+            if not printed:
+                return
             self._say(line, "faint")
             self._tell(printed)
-            if not printed or printed[0].startswith("refused"):
+            if printed[0].startswith("refused"):
                 return
             self._told(f"deliver {lane}")
             passed += 1
