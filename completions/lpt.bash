@@ -5,7 +5,7 @@ _lpt() {
     local command='' request='' offered='' i
     for ((i = 1; i < COMP_CWORD; i++)); do
         case $command:${COMP_WORDS[i]} in
-        :run | :threads | :shell | :lint | :chart | :decode | :list | :split | :join | :extract | :link | :spacecraft | :verify | :compare | :checksum | :ground | :pass | :request | :help)
+        :run | :threads | :lint | :decode | :list | :split | :join | :extract | :link | :spacecraft | :verify | :compare | :checksum | :ground | :pass | :request | :help)
             command=${COMP_WORDS[i]}
             ;;
         ground:load | ground:dump | ground:check | ground:patch | ground:help | \
@@ -19,12 +19,12 @@ _lpt() {
     local options='--config --apid --source --part-size --help --version'
     case $command:$request in
     lint:*) options='--help --version' ;;
-    run:* | threads:* | shell:*) options+=' --mode' ;;
-    chart:*) options+=' --mode --stream --from --to --refused --layout' ;;
+    run:*) options+=' --views --mode' ;;
+    threads:*) options+=' --mode' ;;
     decode:*) options+=' --more --layout' ;;
     list:*) options+=' --json --strict --from --to --layout --quiet' ;;
     split:*) options+=' --parts --count --each --whole --pcap --layout' ;;
-    join:*) options+=' --id --first --any --each --from --to --layout --quiet' ;;
+    join:*) options+=' --id --first --any --each --json --from --to --layout --quiet' ;;
     extract:*) options+=' --at --from --fill --whole --join --layout --quiet' ;;
     link:*) options='--lose --repeat --damage --damage-headers --delay --seed --layout --quiet --help --version' ;;
     verify:*) options='--json --open --layout --quiet --help --version' ;;
@@ -32,10 +32,10 @@ _lpt() {
     compare:*) options+=' --layout --quiet' ;;
     checksum:*) options='--from --length --help --version' ;;
     ground:load | ground:dump | ground:check | ground:patch)
-        options+=' --passes --count --wait --tries --up --job --chart --resync --longest --json --quiet'
+        options+=' --passes --count --wait --tries --up --job --resync --longest --json --quiet'
         ;;
     pass:load | pass:dump | pass:check | pass:patch)
-        options+=' --passes --count --wait --tries --job --chart --longest --json --quiet'
+        options+=' --passes --count --wait --tries --job --longest --json --quiet'
         options+=' --memory --save --state --lose --repeat --damage --delay --seed'
         ;;
     request:load) options+=' --area --each --ack --count --layout' ;;
@@ -50,7 +50,7 @@ _lpt() {
     COMPREPLY=()
     case $command:$request:$before:$word in
     ground:load:--ack:* | pass:load:--ack:* | ground:patch:--ack:* | pass:patch:--ack:*) offered='8 10' ;;
-    *:*:--config:* | *:*:--layout:* | *:*:--state:* | *:*:--up:* | *:*:--job:* | *:*:--chart:* | *:*:--passes:* | ground:dump:--to:* | pass:dump:--to:*)
+    *:*:--config:* | *:*:--layout:* | *:*:--state:* | *:*:--up:* | *:*:--job:* | *:*:--passes:* | ground:dump:--to:* | pass:dump:--to:*)
         mapfile -t COMPREPLY < <(compgen -f -- "$word")
         return
         ;;
@@ -64,8 +64,8 @@ _lpt() {
         return
         ;;
     *:*:--mode:*) offered='any strict' ;;
-    :*) offered='run threads shell lint chart decode list split join extract link spacecraft verify compare checksum ground pass request help --help --version' ;;
-    help::help:*) offered='run threads shell lint chart decode list split join extract link spacecraft verify compare checksum ground pass request help' ;;
+    :*) offered='run threads lint decode list split join extract link spacecraft verify compare checksum ground pass request help --help --version' ;;
+    help::help:*) offered='run threads lint decode list split join extract link spacecraft verify compare checksum ground pass request help' ;;
     help::ground:* | help::pass:* | ground:help:help:* | pass:help:help:*) offered='load dump check patch' ;;
     help::request:* | request:help:help:*) offered='load dump check' ;;
     help:* | ground:help:* | pass:help:* | request:help:*) return ;;
@@ -73,7 +73,7 @@ _lpt() {
     request::*) offered='load dump check help --help --version' ;;
     *:*:*:-*) offered=$options ;;
     split::split:* | join::join:*) offered='up down' ;;
-    decode:* | shell:* | spacecraft:*) return ;;
+    decode:* | spacecraft:*) return ;;
     *)
         mapfile -t COMPREPLY < <(compgen -f -- "$word")
         return

@@ -24,9 +24,7 @@ complete -c lpt -f
 # Commands.
 complete -c lpt -n '__lpt_is' -a run -d 'Run a script of the simulator'
 complete -c lpt -n '__lpt_is' -a threads -d 'Run a script, then let ten threads send and deliver what is open'
-complete -c lpt -n '__lpt_is' -a shell -d "Run a script's lines as you type them"
 complete -c lpt -n '__lpt_is' -a lint -d "Print which lines of a script can't be read, and why"
-complete -c lpt -n '__lpt_is' -a chart -d "Draw a script's run, or a file of packets, as an SVG picture"
 complete -c lpt -n '__lpt_is' -a decode -d 'Decode a packet given in hexadecimal'
 complete -c lpt -n '__lpt_is' -a list -d 'List the packets of a file or a pipe'
 complete -c lpt -n '__lpt_is' -a split -d "Split a message into parts, and write their packets"
@@ -41,7 +39,7 @@ complete -c lpt -n '__lpt_is' -a ground -d 'Send requests to a memory until repo
 complete -c lpt -n '__lpt_is' -a pass -d 'Carry requests to a spacecraft over links that lose, all in one process'
 complete -c lpt -n '__lpt_is' -a request -d 'Write telecommands that load, dump or check a memory'
 complete -c lpt -n '__lpt_is' -a help -d 'Print the help of a command'
-complete -c lpt -n '__lpt_is help' -a 'run threads shell lint chart decode list split join extract link spacecraft verify compare checksum ground pass request help'
+complete -c lpt -n '__lpt_is help' -a 'run threads lint decode list split join extract link spacecraft verify compare checksum ground pass request help'
 for family in ground pass request
     complete -c lpt -n "__lpt_is help $family; or __lpt_is $family help" -a 'load dump check'
 end
@@ -64,7 +62,7 @@ complete -c lpt -n '__lpt_is request' -a help -d 'Print the help of a command'
 
 # Words.
 complete -c lpt -n '__lpt_is split; or __lpt_is join' -a 'up down'
-complete -c lpt -n '__lpt_at run; or __lpt_at threads; or __lpt_at lint; or __lpt_at chart; or __lpt_at list' -F
+complete -c lpt -n '__lpt_at run; or __lpt_at threads; or __lpt_at lint; or __lpt_at list' -F
 complete -c lpt -n '__lpt_at split up; or __lpt_at split down' -F
 complete -c lpt -n '__lpt_at join up; or __lpt_at join down' -F
 complete -c lpt -n '__lpt_at extract; or __lpt_at link; or __lpt_at verify; or __lpt_at compare; or __lpt_at checksum' -F
@@ -76,22 +74,18 @@ complete -c lpt -n '__lpt_at ground dump; or __lpt_at pass dump; and __fish_cont
 # Options.
 complete -c lpt -n 'not __lpt_at help; and not __lpt_at ground help; and not __lpt_at pass help; and not __lpt_at request help' -s h -l help -d 'Print help'
 complete -c lpt -n 'not __lpt_at help; and not __lpt_at ground help; and not __lpt_at pass help; and not __lpt_at request help' -s V -l version -d 'Print version'
-for command in run threads shell chart decode list split join extract spacecraft compare 'request load' 'request dump' 'request check'
+for command in run threads decode list split join extract spacecraft compare 'request load' 'request dump' 'request check'
     complete -c lpt -n "__lpt_at $command" -l config -r -F -d 'A TOML file with the configuration'
     complete -c lpt -n "__lpt_at $command" -l apid -x -d 'The APID of all packets, 0 to 2046'
     complete -c lpt -n "__lpt_at $command" -l part-size -x -d 'The size of a part in octets, 4 to 1024'
 end
-for command in run threads shell chart decode list split join extract spacecraft compare
+for command in run threads decode list split join extract spacecraft compare
     complete -c lpt -n "__lpt_at $command" -l source -x -d 'The source of an ID that is written without one, 0 to 65535'
 end
-for command in run threads shell chart spacecraft
+for command in run threads spacecraft
     complete -c lpt -n "__lpt_at $command" -l mode -x -a 'any strict' -d 'Take parts in any order, or strictly in the order of their numbers'
 end
-complete -c lpt -n '__lpt_at chart' -l stream -d 'Draw packets instead of a script, a row for each transaction'
-complete -c lpt -n '__lpt_at chart' -l from -x -d 'Begin at this event of the run, or at this octet of the packets'
-complete -c lpt -n '__lpt_at chart' -l to -x -d 'End with this event of the run, or before this octet of the packets'
-complete -c lpt -n '__lpt_at chart' -l refused -d 'Draw refused lines too; not with --stream'
-complete -c lpt -n '__lpt_at chart' -l layout -r -F -d "A TOML file with the mission's layouts of headers and parts; only with --stream"
+complete -c lpt -n '__lpt_at run' -l views -d 'Let the script also show link, senders, receptions and jobs'
 complete -c lpt -n '__lpt_at list; or __lpt_at verify' -l json -d 'Print each line as a JSON object'
 complete -c lpt -n '__lpt_at verify' -l open -d 'Write the packets of requests that no report settles, in place of the list'
 complete -c lpt -n '__lpt_at decode' -l more -d 'Also print how many areas a request or report has, the first of them, and which segment a packet is'
@@ -108,6 +102,7 @@ complete -c lpt -n '__lpt_at split' -l pcap -d 'Write the packets as a pcap capt
 complete -c lpt -n '__lpt_at join' -l id -x -d "The message's ID or SOURCE/ID; needed if parts of several messages came"
 complete -c lpt -n '__lpt_at join' -l first -d 'Write the first message under its name, even if others of that name come after it'
 complete -c lpt -n '__lpt_at join' -l any -d 'Write the joined message even if it is no packet'
+complete -c lpt -n '__lpt_at join' -l json -d 'Print a JSON object for each message, with where it is in the packets; only with --each'
 complete -c lpt -n '__lpt_at join' -l each -x -a '(__fish_complete_directories)' -d 'Write each message to a file of its own in this folder; not with --id or --first'
 complete -c lpt -n '__lpt_at extract' -l at -x -d 'Write an image of this memory, each area at its address'
 complete -c lpt -n '__lpt_at extract' -l from -x -d 'The address at which the image begins; 0 if not given'
@@ -150,7 +145,6 @@ for command in 'ground load' 'ground dump' 'ground check' 'ground patch' 'pass l
     complete -c lpt -n "__lpt_at $command" -l wait -x -d 'Send open requests again if nothing came for MS milliseconds'
     complete -c lpt -n "__lpt_at $command" -l tries -x -d 'Give up after N waits in a row that settled nothing'
     complete -c lpt -n "__lpt_at $command" -l job -r -F -d 'Keep in this file what is completed; the same command with another source goes on from it'
-    complete -c lpt -n "__lpt_at $command" -l chart -r -F -d 'Draw into this file, as SVG, what was sent and settled in each round'
     complete -c lpt -n "__lpt_at $command" -l longest -x -d 'The octets of the longest packet on the link; a header that says more is damaged'
     complete -c lpt -n "__lpt_at $command" -l json -d 'Print each line as a JSON object'
     complete -c lpt -n "__lpt_at $command" -l quiet -d 'Report only why the status is not 0'

@@ -1,6 +1,5 @@
-//! `lpt`: runs scripts of large packet transfer, answers their lines one by one, draws what they
-//! did, splits messages into packets and joins them, writes requests to a memory, and says what
-//! octets and streams are as packets.
+//! `lpt`: runs scripts of large packet transfer, splits messages into packets and joins them,
+//! writes requests to a memory, and says what octets and streams are as packets.
 //!
 //! The commands stand in the crates below, and take the handles that they use.
 #![tactic(auto)]
@@ -14,10 +13,8 @@ use lpt_io::{
     Failure, Fault, Machine, Status, Terminals, Voice, config_of, explain_words, tell_end,
 };
 use lpt_message_commands::{extract, join, join_each, join_layout, split, split_all};
-use lpt_packet_commands::{
-    checksum, compare, decode, glance, link, list, request, screen_of, verify,
-};
-use lpt_simulator_commands::{RunKind, answer, chart, lint, run};
+use lpt_packet_commands::{checksum, compare, decode, link, list, request, verify};
+use lpt_simulator_commands::{RunKind, lint, run};
 use std::io::IsTerminal;
 use std::process::{self, ExitCode};
 use std::rt::Env;
@@ -63,13 +60,13 @@ fn given_words(rt: &(impl Env + Eprint + AllocGlobal)) -> Result<Vec<String>, St
 // Does what the words ask for, as the process of this number.
 fn serve<R, T>(rt: &R, threads: &T, terminals: Terminals, process: u32, words: &[String]) -> Status
 where
-    R: EndMachine + Env + Sync,
+    R: EndMachine + Sync,
     T: Threads + Wait + Clock + Copy + Drop + Send + Sync + 'static,
 {
     match read_words(rt.alloc(), words) {
         Ok(asked) => {
             let voice = Voice::new(terminals, asked.quiet);
-            let ended = do_command(rt, threads, terminals, process, voice, &asked);
+            let ended = do_command(rt, threads, process, voice, &asked);
             if ended.is_err() {
                 voice.clear(rt);
             }
@@ -83,21 +80,25 @@ where
 fn do_command<R, T>(
     rt: &R,
     threads: &T,
-    terminals: Terminals,
     process: u32,
     voice: Voice,
     asked: &CommandLine<'_>,
 ) -> Result<Status, Failure>
 where
-    R: EndMachine + Env + Sync,
+    R: EndMachine + Sync,
     T: Threads + Wait + Clock + Copy + Drop + Send + Sync + 'static,
 {
     let settings = &asked.settings;
     match &asked.command {
-        Command::Run(script) => run(rt, threads, settings, RunKind::Run, script),
+        Command::Run(words) => {
+            let way = if words.views {
+                RunKind::Views
+            } else {
+                RunKind::Run
+            };
+            run(rt, threads, settings, way, words.script)
+        }
         Command::Threads(script) => run(rt, threads, settings, RunKind::Threads, script),
-        Command::Shell => answer(rt, terminals.input, settings),
-        Command::Chart(words) if !words.stream => chart(rt, settings, words),
         Command::Lint(script) => lint(rt, script),
         Command::Link(words) => link(rt, voice, words),
         Command::Ground(words) => ground(rt, threads, process, voice, settings, words),
@@ -105,14 +106,13 @@ where
         Command::Spacecraft(words) => spacecraft(rt, threads, process, settings, words),
         Command::Verify(words) => verify(rt, voice, words),
         Command::Checksum(words) => checksum(rt, words),
-        command => do_on_packets(rt, terminals, voice, &config_of(rt, settings)?, command),
+        command => do_on_packets(rt, voice, &config_of(rt, settings)?, command),
     }
 }
 
 // Does a command on packets under their configuration.
-fn do_on_packets<R: Machine + Env>(
+fn do_on_packets<R: Machine>(
     rt: &R,
-    terminals: Terminals,
     voice: Voice,
     config: &Config,
     command: &Command<'_>,
@@ -120,9 +120,8 @@ fn do_on_packets<R: Machine + Env>(
     requires { IsConfig config.now }
 {
     match command {
-        Command::Chart(words) => glance(rt, voice, config, words),
         Command::Decode(words) => decode(rt, *config, words),
-        Command::List(words) => list(rt, voice, screen_of(rt, terminals), config, words),
+        Command::List(words) => list(rt, voice, config, words),
         Command::Split(words) => split(rt, config, words),
         Command::SplitEach(words) => split_all(rt, config, words),
         Command::JoinLayout(words) => join_layout(rt, voice, config, words),

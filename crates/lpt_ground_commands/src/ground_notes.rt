@@ -1,6 +1,6 @@
 //! What a job's file says is completed, and what standard error is told before each round.
 
-use crate::ground_charts::Charts;
+use crate::ground_rounds::Rounds;
 use crate::ground_told::Teller;
 use crate::job_files::JobFront;
 use lpt_end_machine::LastingFiles;
@@ -21,8 +21,8 @@ pub struct GroundNotes<R> {
     failure: Option<Failure>,
     // The round that was told last, and how many requests were settled before it.
     told_last: Option<(u64, usize)>,
-    // What is drawn, if anything is.
-    charts: Option<Charts>,
+    // What was put and settled in each round, if that is told.
+    rounds: Option<Rounds>,
 }
 
 impl<R: Copy> GroundNotes<R> {
@@ -39,20 +39,20 @@ impl<R: Copy> GroundNotes<R> {
             goes_on,
             failure: None,
             told_last: None,
-            charts: None,
+            rounds: None,
         }
     }
 }
 
 impl<R: LastingFiles + AllocGlobal> GroundNotes<R> {
-    /// Notes from now on what is to be drawn.
-    pub fn chart(&mut self) {
-        self.charts = Some(Charts::new(self.rt.alloc()));
+    /// Notes from now on what is put and settled in each round.
+    pub fn note_rounds(&mut self) {
+        self.rounds = Some(Rounds::new(self.rt.alloc()));
     }
 
-    /// What is drawn, if anything is.
-    pub fn charts(&mut self) -> Option<&mut Charts> {
-        self.charts.as_mut()
+    /// What was put and settled in each round, if that is noted.
+    pub fn rounds(&mut self) -> Option<&mut Rounds> {
+        self.rounds.as_mut()
     }
 
     /// Keeps nothing from now on.
@@ -90,8 +90,8 @@ impl<R: LastingFiles + AllocGlobal> GroundNotes<R> {
 
 impl<R: LastingFiles + Eprint + AllocGlobal> Notes for GroundNotes<R> {
     fn keep(&mut self, counts: RunCounts, asked: &[Asked]) -> bool {
-        if let Some(charts) = &mut self.charts {
-            charts.note(counts, asked);
+        if let Some(rounds) = &mut self.rounds {
+            rounds.note(counts, asked);
         }
         let settled = asked
             .iter()

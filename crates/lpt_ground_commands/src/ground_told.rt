@@ -40,6 +40,18 @@ impl Teller {
         }
     }
 
+    /// Whether what was put and settled in each round is told.
+    pub fn tells_rounds(self) -> bool {
+        self.json && self.voice.tells()
+    }
+
+    /// Tells that, in these lines, unless there was no memory for them.
+    pub fn tell_rounds(self, rt: &impl Eprint, lines: Result<String, AllocError>) {
+        if let Ok(lines) = lines {
+            let _ = rt.eprint(lines.as_str());
+        }
+    }
+
     // Tells what became of some octets, and of which file of a list they are, if they are of one.
     fn tell_became(
         self,
@@ -268,14 +280,6 @@ pub fn title_of(
     let mut title = areas_title(alloc, places)?;
     let count = words.count;
     title.write(format_args!(" source {source} count {count}"))?;
-    Ok(title)
-}
-
-/// What a pass is of, in words, without the sequence counts, which another pass may have too. The
-/// only error is out of memory.
-pub fn chart_title(alloc: Global, source: u16, places: &[Places]) -> Result<String, AllocError> {
-    let mut title = areas_title(alloc, places)?;
-    title.write(format_args!(" source {source}"))?;
     Ok(title)
 }
 

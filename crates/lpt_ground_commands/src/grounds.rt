@@ -8,7 +8,7 @@ use crate::errands::{Errand, errand_of, overlap_of};
 use crate::ground_notes::GroundNotes;
 use crate::ground_puts::{Noted, Puts};
 use crate::ground_sources::source_of;
-use crate::ground_told::{Teller, chart_title, title_of};
+use crate::ground_told::Teller;
 use crate::ground_wires::{Ears, OUTPUT, Wire, close, hear, is_late, limit_of, uplink_wire};
 use crate::job_files::{JobFront, job_begun, kept_job, sources_of};
 use crate::outputs::{check_places, files_used};
@@ -199,29 +199,17 @@ pub fn put_over<R: PlainMachine, T: Wait + Clock + Drop, W: Write + Drop>(
     out: Wire<W>,
     name: &str,
 ) -> Result<Status, Failure> {
-    if words.chart.is_some() {
-        ears.notes().chart();
+    let tells_rounds = ears.notes().teller().tells_rounds();
+    if tells_rounds {
+        ears.notes().note_rounds();
     }
-    let mut out = Noted::new(rt.alloc(), out, words.chart.is_some());
+    let mut out = Noted::new(rt.alloc(), out, tells_rounds);
     let ended = carry_all(rt, ears, words, errand, &mut out);
     let closed = close(rt, out.into_out(), name);
     ears.hear_out();
     let strays = ears.strays();
     ears.notes().teller().tell_strays(rt, strays);
-    let drawn = write_chart(rt, ears, words);
-    both(drawn, both(closed, ended))
-}
-
-// Writes the picture, if one is wanted.
-fn write_chart<R: PlainMachine, T: Wait + Clock + Drop>(
-    rt: &R,
-    ears: &mut Ears<R, T>,
-    words: &GroundWords<'_>,
-) -> Result<(), Failure> {
-    match (words.chart, ears.notes().charts()) {
-        (Some(path), Some(charts)) => charts.write(rt, path),
-        _ => Ok(()),
-    }
+    both(closed, ended)
 }
 
 // How it ends when something came to this behind what came to that end.
@@ -325,15 +313,14 @@ fn tell<R: PlainMachine, T: Wait + Clock + Drop>(
     let counts = ears.counts();
     let halt = stand_of(ears, pass);
     let teller = ears.notes().teller();
+    if let Some(rounds) = ears.notes().rounds() {
+        teller.tell_rounds(rt, rounds.take_lines(puts));
+    }
     teller.tell_halt(rt, halt);
     if late {
         teller.tell_unread(rt, limit_of(words).as_millis());
     }
     teller.tell_end(rt, words, (places, files), (pass, earlier), counts);
-    if let Some(charts) = ears.notes().charts() {
-        let title = chart_title(rt.alloc(), pass.terms().source, places);
-        charts.end_pass(title, counts, puts);
-    }
 }
 
 // Where what comes down has ended, or, if a request still waits, inside which packet it stands.

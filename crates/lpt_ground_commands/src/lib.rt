@@ -6,10 +6,10 @@
 
 mod comparing;
 mod errands;
-mod ground_charts;
 mod ground_lines;
 mod ground_notes;
 mod ground_puts;
+mod ground_rounds;
 mod ground_sources;
 mod ground_told;
 mod ground_wires;

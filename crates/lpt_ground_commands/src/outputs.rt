@@ -1,4 +1,4 @@
-//! Files that a job uses; and dumps and pictures for whose files there is no place.
+//! Files that a job uses; and dumps for whose files there is no place.
 
 use lpt_command_line::{GroundWords, Job, SettingWords, SourceWords, SpacecraftWords};
 use lpt_end_machine::{Usage, UsedFile, add_craft_files, add_file, add_settings_file};
@@ -37,7 +37,6 @@ fn add_all<'a>(
     if let SourceWords::Next(path) = words.source {
         add_file(files, "--passes <FILE>", Some(path), Usage::Locked)?;
     }
-    add_file(files, "--chart <FILE>", words.chart, Usage::Written)?;
     add_file(files, "--up <FIFO>", words.up, Usage::Put)?;
     match craft {
         Some(craft) => add_craft_files(files, craft),
@@ -62,7 +61,7 @@ fn add_areas<'a>(files: &mut Vec<UsedFile<'a>>, words: &GroundWords<'a>) -> Resu
     Ok(())
 }
 
-/// Refuses dumps, or a picture, for whose file there is no place: they are written at the end only.
+/// Refuses dumps for whose files there is no place: they are written at the end only.
 ///
 /// Errors: `Write`.
 pub fn check_places(
@@ -74,8 +73,5 @@ pub fn check_places(
             check_place(rt, area.file)?;
         }
     }
-    match words.chart {
-        Some(file) => check_place(rt, file),
-        None => Ok(()),
-    }
+    Ok(())
 }

@@ -10,8 +10,8 @@ use lpt_carried::Layouts;
 use lpt_command_line::ListWords;
 use lpt_events::Config;
 use lpt_io::{
-    Failure, Machine, Output, Packets, Status, Voice, finish, first_failure, opened_packets,
-    output, own_or_read, packets_end, tell_text,
+    Failure, Machine, Packets, Status, Voice, finish, first_failure, opened_packets, output,
+    own_or_read, packets_end, tell_text,
 };
 use lpt_list::{Form, ListEnd, Listed, Tally, list_stream};
 use lpt_packet::{ERROR_CONTROL, PRIMARY_HEADER, Seen, read_packet};
@@ -19,27 +19,24 @@ use lpt_part::{Kind, read_part};
 use lpt_skips::fitting_size;
 use lpt_sources::Keeping;
 use lpt_stream::whole_length;
-use lpt_terminal::{Screen, Table};
-use lpt_text::{FromStd, StreamFault};
+use lpt_text::StreamFault;
 
 /// How many octets in front are looked at for parts of another layout.
-pub const FRONT: usize = 131_072;
+const FRONT: usize = 131_072;
 
 /// Lists the packets of a stream: by the layouts of a file if one is given, otherwise by the
-/// profile. At a terminal the lines become rows of a table.
+/// profile.
 ///
 /// Errors: `Read` if a file can't be opened or read, or a capture is wrong; `Config` if the
 /// layouts' file is too long; `Write`, `Memory`.
 pub fn list<R: Machine>(
     rt: &R,
     voice: Voice,
-    screen: Option<Screen>,
     config: &Config,
     words: &ListWords<'_>,
 ) -> Result<Status, Failure>
     requires { IsConfig config.now }
 {
-    let screen = if words.json { None } else { screen };
     let voice = voice.beside_output();
     let Some(layouts) = own_or_read(rt, config.part_size, words.layout)? else {
         return Ok(Status::Unreadable);
@@ -49,7 +46,7 @@ pub fn list<R: Machine>(
     let Ok(mut source) = Keeping::new(rt.alloc(), packets, FRONT) else {
         return Err(Failure::from(StreamFault::Memory));
     };
-    let status = list_packets(rt, voice, screen, config, &layouts, words, &mut source);
+    let status = list_packets(rt, voice, config, &layouts, words, &mut source);
     drop(source);
     status
 }
@@ -58,7 +55,6 @@ pub fn list<R: Machine>(
 fn list_packets<R: Machine>(
     rt: &R,
     voice: Voice,
-    screen: Option<Screen>,
     config: &Config,
     layouts: &Layouts,
     words: &ListWords<'_>,
@@ -67,7 +63,18 @@ fn list_packets<R: Machine>(
     requires config { IsConfig config.now }
     requires sizes { SizesFit layouts.now }
 {
-    let (listed, out) = listed_to(rt, screen, layouts, words, source, output(rt)?);
+    let mut out = output(rt)?;
+    let form = if words.json { Form::Json } else { Form::Text };
+    let from = words.span.from.unwrap_or(0);
+    let listed = list_stream(
+        rt.alloc(),
+        form,
+        layouts,
+        words.strict,
+        from,
+        source,
+        &mut out,
+    );
     let failed = matches!(listed, Err(StreamFault::Read));
     let failure = packets_end(rt, voice, source.source(), &words.files, failed);
     first_failure(finish(rt, out), failure)?;
@@ -93,43 +100,9 @@ fn list_packets<R: Machine>(
     }
 }
 
-// Lists the packets to this output, as rows if that is a terminal, and gives it back.
-fn listed_to<'r, R: Machine>(
-    rt: &R,
-    screen: Option<Screen>,
-    layouts: &Layouts,
-    words: &ListWords<'_>,
-    source: &mut Keeping<Packets<R>>,
-    out: Output<'r, R>,
-) -> (Result<Listed, StreamFault>, Output<'r, R>)
-    requires { SizesFit layouts.now }
-{
-    let form = if words.json { Form::Json } else { Form::Text };
-    let from = words.span.from.unwrap_or(0);
-    let (alloc, strict) = (rt.alloc(), words.strict);
-    match screen {
-        None => {
-            let mut out = out;
-            let listed = list_stream(alloc, form, layouts, strict, from, source, &mut out);
-            (listed, out)
-        }
-        Some(screen) => {
-            let mut rows = FromStd::new(Table::new(alloc, screen, out.into_inner()));
-            let listed = list_stream(alloc, form, layouts, strict, from, source, &mut rows);
-            let table = rows.into_inner();
-            let listed = if table.is_starved() {
-                Err(StreamFault::Memory)
-            } else {
-                listed
-            };
-            (listed, FromStd::new(table.into_inner()))
-        }
-    }
-}
-
-/// Tells by which other layout or part size parts at the front of a stream would be read that
-/// aren't read by these layouts, which are given or are the profile's.
-pub fn tell_others(
+// Tells by which other layout or part size parts at the front of a stream would be read that aren't
+// read by these layouts, which are given or are the profile's.
+fn tell_others(
     rt: &(impl Eprint + AllocGlobal),
     p: u32,
     is_given: bool,

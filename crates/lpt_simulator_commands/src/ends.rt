@@ -9,17 +9,19 @@ use lpt_text::LONGEST_TEXT;
 use lpt_tool::ToolFault;
 use std::io;
 
-/// How the run of a script at this path ends, after it was told why its last line is unreadable,
-/// if it is.
+/// How the run of a script at this path ends, which may have asked for views, after it was told why
+/// its last line is unreadable, if it is.
 pub fn status_at_end<R: Machine>(
     rt: &R,
     source: &Script<R>,
     path: &str,
+    has_views: bool,
     ran: Result<ScriptEnd, ToolFault>,
 ) -> Result<Status, Failure> {
     let watched = source.inner();
     if let Err(ToolFault::Line(number)) = ran {
-        tell_unreadable(rt, path, number, watched.inner().octets_kept());
+        let text = watched.inner().octets_kept();
+        tell_unreadable(rt, path, has_views, number, text);
     }
     status_after(rt, watched.error(), path, ran)
 }

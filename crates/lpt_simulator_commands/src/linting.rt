@@ -4,6 +4,7 @@ use crate::ends::status_after;
 use lpt_io::{Failure, Incoming, Machine, Status, finish, name_of, open_input, output};
 use lpt_script::ScriptEnd;
 use lpt_script_lint::{Finding, explain, finding_text};
+use lpt_script_views::is_view;
 use lpt_text::split_line;
 use lpt_tool::ToolFault;
 
@@ -37,9 +38,16 @@ fn lint_from<R: Machine>(
 }
 
 /// Says on standard error why the line of this number is unreadable in the script at this path, as
-/// a lint does: the first unreadable one of this text, at which the run ended.
-pub fn tell_unreadable(rt: &(impl Eprint + AllocGlobal), script: &str, number: u64, text: &[u8]) {
-    let Some((line, finding)) = first_unreadable(text) else {
+/// a lint does: the first unreadable one of this text, at which the run ended. A line that asks for
+/// a view isn't one, if such lines are read.
+pub fn tell_unreadable(
+    rt: &(impl Eprint + AllocGlobal),
+    script: &str,
+    has_views: bool,
+    number: u64,
+    text: &[u8],
+) {
+    let Some((line, finding)) = first_unreadable(has_views, text) else {
         return;
     };
     let name = name_of(script).as_bytes();
@@ -52,11 +60,12 @@ pub fn tell_unreadable(rt: &(impl Eprint + AllocGlobal), script: &str, number: u
 }
 
 // The first unreadable line of a text, and where and why it is.
-fn first_unreadable(text: &[u8]) -> Option<(&[u8], Finding)> {
+fn first_unreadable(has_views: bool, text: &[u8]) -> Option<(&[u8], Finding)> {
     for piece in text.split_inclusive(|octet| *octet == b'\n') {
         let (line, _) = split_line(piece)?;
-        if let Some(finding) = explain(line) {
-            return Some((line, finding));
+        match explain(line) {
+            Some(finding) if !has_views || !is_view(line) => return Some((line, finding)),
+            _ => {}
         }
     }
     None

@@ -9,36 +9,27 @@ use std::io::{self, Read};
 /// The octets of a script as they come, which keeps why it failed, and the last lines.
 pub type Script<R> = FromStd<Watched<Recalled<R>>>;
 
-/// What is kept of a script.
-#[derive(Clone, Copy)]
-pub enum KeptText {
-    /// The octets of the last read, and those before them of the line that they go on.
-    Last,
-    /// All.
-    Whole,
-    /// Nothing: there was no memory for it.
-    Nothing,
-}
-
-/// A file or standard input, with what is kept of it.
+/// A file or standard input, with what is kept of it: the octets of the last read, and those before
+/// them of the line that they go on.
 ///
 /// A run does each whole line before it reads on, so the line at which it ends is among the octets
 /// of the last read and what stood before them without a line end.
 #[derive(Drop)]
 pub struct Recalled<R: Machine> {
     input: Origin<R>,
-    reach: KeptText,
+    // Whether there was memory for it.
+    keeps: bool,
     kept: Vec<u8>,
-    // How many octets the last read gave: those before them have no line end, unless all are kept.
+    // How many octets the last read gave: those before them have no line end.
     last: usize,
 }
 
 impl<R: Machine> Recalled<R> {
     /// An input of which nothing was read.
-    pub fn new(alloc: Global, input: Origin<R>, reach: KeptText) -> Self {
+    pub fn new(alloc: Global, input: Origin<R>) -> Self {
         Recalled {
             input,
-            reach,
+            keeps: true,
             kept: Vec::new(alloc),
             last: 0,
         }
@@ -51,20 +42,17 @@ impl<R: Machine> Recalled<R> {
 
     // Keeps what was read. If there is no memory for it, nothing is kept from then on.
     fn keep(&mut self, octets: &[u8]) {
-        match self.reach {
-            KeptText::Last => {
-                self.pass();
-                if self.kept.len() > LONGEST_LINE {
-                    return;
-                }
-            }
-            KeptText::Whole => {}
-            KeptText::Nothing => return,
+        if !self.keeps {
+            return;
+        }
+        self.pass();
+        if self.kept.len() > LONGEST_LINE {
+            return;
         }
         self.last = octets.len();
         if self.kept.extend_from_slice(octets).is_err() {
             self.kept.clear();
-            self.reach = KeptText::Nothing;
+            self.keeps = false;
         }
     }
 
@@ -89,10 +77,10 @@ impl<R: Machine> Read for Recalled<R> {
     }
 }
 
-/// The script at this path, or standard input for `-`, to be read; so much is kept of it.
+/// The script at this path, or standard input for `-`, to be read.
 ///
 /// Errors: `Read` if it can't be opened.
-pub fn opened_script<R: Machine>(rt: &R, path: &str, kept: KeptText) -> Result<Script<R>, Failure> {
+pub fn opened_script<R: Machine>(rt: &R, path: &str) -> Result<Script<R>, Failure> {
     let input = input_at(rt, path)?;
-    Ok(FromStd::new(Watched::new(Recalled::new(rt.alloc(), input, kept))))
+    Ok(FromStd::new(Watched::new(Recalled::new(rt.alloc(), input))))
 }

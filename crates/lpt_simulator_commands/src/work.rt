@@ -1,12 +1,13 @@
 //! Scripts run, with threads behind them and without.
 
 use crate::ends::status_at_end;
-use crate::recalled::{KeptText, Script, opened_script};
+use crate::recalled::{Script, opened_script};
 use lpt_command_line::SettingWords;
 use lpt_events::{Config, Turns};
 use lpt_io::{Failure, Machine, Status, finish, output, settings_of, tell_place};
 use lpt_memory::Memories;
 use lpt_script::ScriptEnd;
+use lpt_script_views::run_views;
 use lpt_tool::{ThreadsEnd, ToolFault, run_script, run_threads_script};
 use std::sync::Wait;
 use std::thread::Threads;
@@ -16,6 +17,8 @@ use std::thread::Threads;
 pub enum RunKind {
     /// They are run, up to an unreadable one.
     Run,
+    /// The same, and they may ask for views.
+    Views,
     /// They are run, and ten threads after their events.
     Threads,
 }
@@ -34,15 +37,16 @@ pub fn run<R: Machine, T: Threads + Wait + Sync>(
     script: &str,
 ) -> Result<Status, Failure> {
     let (config, memories, turns) = settings_of(rt, settings)?;
-    let mut source = match opened_script(rt, script, KeptText::Last) {
+    let mut source = match opened_script(rt, script) {
         Ok(source) => source,
         Err(failure) => {
             drop(memories);
             return Err(failure);
         }
     };
+    let has_views = matches!(way, RunKind::Views);
     let status = lines_run(rt, threads, config, memories, turns, way, &mut source).and_then(
-        |ran| status_at_end(rt, &source, script, ran),
+        |ran| status_at_end(rt, &source, script, has_views, ran),
     );
     drop(source);
     status
@@ -69,6 +73,10 @@ fn lines_run<R: Machine, T: Threads + Wait + Sync>(
     let alloc = rt.alloc();
     let ran = match way {
         RunKind::Run => run_script(alloc, config, memories, source, &mut out),
+        RunKind::Views => match run_views(alloc, config, memories, source, &mut out) {
+            Ok(end) => Ok(end),
+            Err(fault) => Err(ToolFault::from(fault)),
+        },
         RunKind::Threads => {
             let ran = run_threads_script(alloc, threads, config, memories, turns, source, &mut out);
             told_full(rt, turns, ran)

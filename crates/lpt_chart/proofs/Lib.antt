@@ -1,4 +1,0 @@
-pub mod ChartTags
-pub mod StoryLemmas
-pub mod TrackLemmas
-pub mod ViewLemmas

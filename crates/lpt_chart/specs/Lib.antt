@@ -1,9 +1,0 @@
-pub mod Charts
-pub mod Frames
-pub mod Laws
-pub mod Scenes
-pub mod Stories
-pub mod Telling
-pub mod Tracks
-pub mod Types
-pub mod Words

@@ -1,2 +1,0 @@
-pub mod Drawings
-pub mod Fronts

@@ -1,5 +1,0 @@
-mod CountLemmas
-mod DrawnLemmas
-mod PictureTags
-mod RowLemmas
-mod SeenLemmas

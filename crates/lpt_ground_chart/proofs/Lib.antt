@@ -1,3 +1,0 @@
-mod RowLemmas
-mod SentLemmas
-mod SplitLemmas

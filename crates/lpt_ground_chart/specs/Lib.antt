@@ -1,3 +1,0 @@
-pub mod Flights
-pub mod Laws
-pub mod Pictures

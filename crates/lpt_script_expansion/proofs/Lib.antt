@@ -1,3 +1,0 @@
-pub mod FilledLemmas
-mod ListLemmas
-pub mod ReadLemmas

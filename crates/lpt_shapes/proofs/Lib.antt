@@ -1,4 +1,0 @@
-pub mod EscapeLemmas
-pub mod ShapeTags
-pub mod TagLemmas
-pub mod ToldLemmas

@@ -1,3 +1,0 @@
-pub mod Shapes
-pub mod Tags
-pub mod Words
