@@ -1,5 +1,6 @@
 """What the scripts of tests/ in Python share: the program, and the count of cases."""
 
+import importlib
 import os
 import pathlib
 import subprocess
@@ -37,16 +38,23 @@ def clashes(areas, start=0):
     return [f"{first}-{last}" if first < last else first for first, last in runs]
 
 
+def is_there(program):
+    """Whether the program under test starts. The built one has to be of what the sources are now."""
+    if "LPT_UNDER_TEST" not in os.environ:
+        program = TOP / "lpt"
+    environment = {**os.environ, "LPT_BUILD": "never"}
+    return subprocess.run([program, "--version"], env=environment, stdout=subprocess.DEVNULL).returncode == 0
+
+
 class Driver:
-    """A script of tests/ by this name: it runs the program that was built, and counts its cases."""
+    """A script of tests/ by this name: it runs the program under test, and counts its cases."""
 
     def __init__(self, name, is_built=True):
         self.name = name
         self.passed = 0
         self.failed = 0
-        environment = {**os.environ, "LPT_BUILD": "never"}
-        words = [TOP / "lpt", "--version"]
-        if is_built and subprocess.run(words, env=environment, stdout=subprocess.DEVNULL).returncode != 0:
+        self.program = importlib.import_module("under_test").PROGRAM if is_built else None
+        if is_built and not is_there(self.program):
             print(f"{name}: 0 passed, 1 failed")
             sys.exit(1)
 
@@ -54,7 +62,7 @@ class Driver:
         """Runs the program: its status, what it printed, and the lines of its complaint."""
         try:
             ran = subprocess.run(
-                [TOP / "crates/lpt/out/lpt", *words],
+                [self.program, *words],
                 input=read,
                 capture_output=True,
                 env={**os.environ, **(environment or {})},
