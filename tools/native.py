@@ -65,7 +65,7 @@ def compile_tests(top: pathlib.Path, name: str, listed: list[str], room: pathlib
     known = libraries(top)
     own = sorted({*listed, *(it for crate in listed for it in below(crate, known))})
     words = ["--test", "src/lib.rt", *sources(top, own, OF_KIT)]
-    compiling.program(compiling.module(room, f"lpt_{name}_tests", words), room / "program")
+    compiling.program(compiling.module(room, f"lpt_{name}_tests", words), room / "program", 0)
     (room / "program").replace(made)
 
 

@@ -80,7 +80,9 @@ class Program:
 
 
 def built_program():
-    """The program that ./lpt makes, where that is built."""
+    """The program under test, or the one that ./lpt makes, where that is built."""
+    if os.environ.get("LPT_UNDER_TEST"):
+        return pathlib.Path(os.environ["LPT_UNDER_TEST"]).absolute()
     environment = {**os.environ, "LPT_BUILD": "never"}
     words = [TOP / "lpt", "--version"]
     if subprocess.run(words, env=environment, stdout=subprocess.DEVNULL).returncode != 0:
