@@ -33,7 +33,7 @@ TRIED = "crates/lpt/out/tried"
 KEPT = {"program": TRIED, "libraries": f"build/{unproved.FOLDER}", "native": "build/native"}
 # What a script's text names that it wants.
 WANTS = {
-    "program": r"under_test|LPT_UNDER_TEST|\bDriver\(",
+    "program": r"under_test|LPT_UNDER_TEST|\bDriver\(|plain/compare",
     "libraries": r"import archive\b|from archive\b|build-c",
     "native": r"\bnative\b",
 }
@@ -47,6 +47,8 @@ LEFT_OUT = {
     "not_dropped": ASKS_THE_PROVER,
     "statements": ASKS_THE_PROVER,
 }
+# What a script is asked for in place of more.
+SHORTENED = {"bus": ["--seconds", "15", "--kills", "100"]}
 NUMBERS = re.compile(r"^(?:[a-z0-9_]+: )?(\d+) passed, (\d+) failed$", re.M)
 
 
@@ -143,15 +145,15 @@ class Quick:
             return self.count(name, 1, f"{name} wants what couldn't be compiled")
         with self.runs:
             # What scripts wait for goes first.
-            self.ask(name, ["nice", str(self.room / "tests" / name)])
+            self.ask(name, ["nice", str(self.room / "tests" / name), *SHORTENED.get(name, [])])
 
     def all(self) -> None:
         """Compiles everything, and runs the scripts."""
         python = [sys.executable, "-B"]
         compiled = {
             "program": [["bash", "tools/build", "tried"]],
-            "native": [[*python, "tools/native.py", ".", it] for it in native.folders(self.room)],
             "libraries": [[*python, "tools/unproved.py", "."]],
+            "native": [[*python, "tools/native.py", ".", it] for it in reversed(native.folders(self.room))],
         }
         scripts = sorted(it.name for it in (self.room / "tests").iterdir() if it.is_file() and it.name not in LEFT_OUT)
         works = [threading.Thread(target=self.compile, args=it) for it in compiled.items()]
@@ -178,6 +180,8 @@ def main() -> int:
     print()
     for name, why in LEFT_OUT.items():
         print(f"left out: {name}: {why}")
+    for name, words in SHORTENED.items():
+        print(f"shortened: {name} {' '.join(words)}")
     print(f"{used.ru_utime + used.ru_stime:.0f} processor seconds, {time.monotonic() - run.begun:.0f} by the clock")
     print("nothing was proved: the checks in the code ran in place of proofs")
     print(f"{run.passed} passed, {run.failed} failed")
