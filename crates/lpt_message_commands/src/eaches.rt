@@ -4,6 +4,7 @@ ghost use Rattle.std.specs.Prelude.{◌≡◌, IfErr};
 ghost use Rattle.lpt_events.specs.Configs.{IsConfig};
 
 use crate::joins::{source_of, tell, tell_none, tell_skips, unfit_text, who};
+use crate::placed_joins::write_placed;
 use lpt_carried::{Name, Reading};
 use lpt_command_line::{JoinWords, Span};
 use lpt_each_files::{Shelf, write_messages};
@@ -23,7 +24,7 @@ use std::rt::Files;
 /// The machine's files, of which each message gets a new one, and standard error, which is told of
 /// what never became whole.
 #[derive(Drop)]
-struct MachineShelf<'a, R: Machine> {
+pub(crate) struct MachineShelf<'a, R: Machine> {
     rt: &'a R,
     voice: Voice,
     words: EachWords<'a>,
@@ -56,6 +57,11 @@ impl<R: Machine> Shelf for MachineShelf<'_, R> {
 }
 
 impl<R: Machine> MachineShelf<'_, R> {
+    /// Notes why something couldn't be written.
+    pub(crate) fn fail(&mut self, failure: Failure) {
+        self.failure = Some(failure);
+    }
+
     // Writes a message that became whole into a new file at this path: all of it, or there is no
     // file.
     //
@@ -138,6 +144,8 @@ pub struct EachWords<'a> {
     pub reading: Reading,
     /// Whether what is joined needn't be a packet.
     pub any: bool,
+    /// Whether a line of JSON says where each message is.
+    pub json: bool,
     /// Which octets of the packets are read.
     pub span: Span,
     /// The paths of the packets.
@@ -167,6 +175,7 @@ pub fn join_each<'a, R: Machine>(
         user: u32::from(config.source),
         reading: Reading::own(words.direction, config.apid, config.part_size),
         any: words.any,
+        json: words.json,
         span,
         files: words.files.as_slice(),
         path,
@@ -199,7 +208,11 @@ pub fn write_each<'a, R: Machine>(
         failure: None,
     };
     let (reading, path) = (&words.reading, words.path);
-    let (ended, shelf) = write_messages(rt.alloc(), reading, words.any, path, source, shelf);
+    let (ended, shelf) = if words.json {
+        write_placed(rt, words, source, shelf)
+    } else {
+        write_messages(rt.alloc(), reading, words.any, path, source, shelf)
+    };
     let MachineShelf {
         came,
         lost,
@@ -270,10 +283,7 @@ fn missing_text(
     came: &CameAs,
     from: u64,
 ) -> Result<String, AllocError> {
-    let numbers = numbers_of(alloc, came)?;
-    let list = missing_list(alloc, &numbers);
-    drop(numbers);
-    let list = list?;
+    let list = missing_of(alloc, came)?;
     match came.began() {
         Some(began) => {
             let place = began.saturating_add(from);
@@ -281,6 +291,15 @@ fn missing_text(
         }
         None => format!(in alloc; "{who}: missing parts: {word}:{list}"),
     }
+}
+
+/// Which parts of a message are missing of which these came, as a list. The only error is out of
+/// memory.
+pub(crate) fn missing_of(alloc: Global, came: &CameAs) -> Result<String, AllocError> {
+    let numbers = numbers_of(alloc, came)?;
+    let list = missing_list(alloc, &numbers);
+    drop(numbers);
+    list
 }
 
 // The numbers of the parts that came, up to 65,542.

@@ -39,6 +39,7 @@ pub fn join<R: Machine>(
                 user,
                 reading,
                 any: words.any,
+                json: words.json,
                 span,
                 files: words.files.as_slice(),
                 path,

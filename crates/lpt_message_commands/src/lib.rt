@@ -11,6 +11,7 @@ mod extract_notices;
 mod extracts;
 mod joins;
 mod layout_joins;
+mod placed_joins;
 mod split_eaches;
 mod splits;
 
