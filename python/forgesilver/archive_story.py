@@ -17,7 +17,7 @@ class Transfer:
 
     name: str
     parts: list[dict[str, Any]] = dataclasses.field(default_factory=list)
-    #: Where each message began, and where it became whole.
+    #: The octets of each message: from the packet of its first part to the end of that which made it whole.
     whole: list[tuple[int, int]] = dataclasses.field(default_factory=list)
     #: Where each other began, and which parts it lacks, as `2,4-6,9-`.
     lacking: list[tuple[int, str]] = dataclasses.field(default_factory=list)
@@ -45,6 +45,7 @@ def archive_of(path: str | os.PathLike[str], *options: Word) -> Archive:
     """The story of a file of packets. The options are those that both `lpt list` and `lpt join` take."""
     packets = list(rows("list", "--json", path, *options))
     found = Archive(pathlib.Path(path).stat().st_size, packets, {})
+    ends = {it["place"]: it["place"] + it["length"] for it in packets if "length" in it}
     for fields in packets:
         name = name_of(fields)
         if name:
@@ -57,7 +58,7 @@ def archive_of(path: str | os.PathLike[str], *options: Word) -> Archive:
         for it in told:
             transfer = found.transfers.setdefault(it["name"], Transfer(it["name"]))
             if "at" in it:
-                transfer.whole.append((it["from"], it["at"]))
+                transfer.whole.append((it["from"], ends[it["at"]]))
             else:
                 transfer.lacking.append((it["from"], it["missing"]))
     return found

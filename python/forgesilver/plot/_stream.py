@@ -86,10 +86,10 @@ class Drawing:
         page.text(LEFT - 14, y + strip.tall / 2, name, size=9.5, align="right", bold=True)
         page.text(LEFT - 3, end - step / 2, "1", "grey", 6, "right")
         page.text(LEFT - 3, end - step * (strip.highest - 0.5), f"{strip.highest}", "grey", 6, "right")
-        for first, place in transfer.whole:
-            tip = f"{name}: began at octet {first}, whole at octet {place}"
-            page.box(self._x(first), y, self._x(place) - self._x(first), strip.tall, "goodfill", z=0.6, tip=tip)
-            page.mark(self._x(place), y - 1, "o", 6.5, "good", tip=f"{name}: whole at octet {place}")
+        for first, last in transfer.whole:
+            tip = f"{name}: began at octet {first}, whole at octet {last}"
+            page.box(self._x(first), y, self._x(last) - self._x(first), strip.tall, "goodfill", z=0.6, tip=tip)
+            page.mark(self._x(last), y - 1, "o", 6.5, "good", tip=f"{name}: whole at octet {last}")
         for first, parts in transfer.lacking:
             for a, b in spans(parts, strip.count):
                 low, high = end - step * b, end - step * (a - 1)
