@@ -175,7 +175,9 @@ enum LptFault {
     /* A job takes more requests than a pass may have, 16,384. */
     LPT_E_LONG_JOB = 121,
     /* Of an end: the clock, or the tick at which a reception last got a part, would go below 0. */
-    LPT_E_CLOCK_START = 125
+    LPT_E_CLOCK_START = 125,
+    /* Of an end: the oldest request was read already. */
+    LPT_E_ALREADY_READ = 126
 };
 
 /* Returns the name of what a call returned, for example "too long" for LPT_E_TOO_LONG; "unknown"
@@ -298,6 +300,8 @@ static inline const char *lpt_fault_name(uint32_t fault) {
         return "long job";
     case LPT_E_CLOCK_START:
         return "clock start";
+    case LPT_E_ALREADY_READ:
+        return "already read";
     default:
         return "unknown";
     }

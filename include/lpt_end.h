@@ -282,8 +282,7 @@ uint32_t lpt_end_sent(LptEnd *end);
 enum LptAppliedKind {
     LPT_APPLIED_CARRIED_OUT = 1,
     LPT_APPLIED_OPENED = 2, /* carried out; its report is the open message `name`, sent in parts */
-    LPT_APPLIED_SILENT = 3, /* nothing was done, because the request is no telecommand of the APID,
-                               or was dropped */
+    LPT_APPLIED_SILENT = 3, /* nothing was done: the request is no telecommand of the APID */
     LPT_APPLIED_REFUSED = 4 /* it failed, and changed nothing: `value` is the LptFailure */
 };
 
@@ -345,12 +344,9 @@ LPT_MUST_USE
 uint32_t lpt_end_asked_area(LptEnd *end, size_t number, LptArea *area);
 
 /*
- * Drops the oldest released request that wasn't read yet, in place of lpt_end_read. The request is
- * never executed. An empty request takes its place: when its turn comes, still call
- * lpt_end_execute, or lpt_end_execute_given with no octets. Then applied->kind is
- * LPT_APPLIED_SILENT, and there is no report. lpt_end_drop_read drops a request that was read. Less
- * is proved about ends that drop requests: docs/C.md says what.
- * LPT_DONE; LPT_E_NO_JOB, as always on ground; LPT_E_ALLOCATION.
+ * Drops the oldest request of all, if it wasn't read yet, in place of lpt_end_read. The request is
+ * never executed, and there is no report of this. lpt_end_drop_read drops one that was read.
+ * LPT_DONE; LPT_E_ALREADY_READ; LPT_E_NO_JOB, as always on ground; LPT_E_ALLOCATION.
  */
 LPT_MUST_USE
 uint32_t lpt_end_drop(LptEnd *end);
@@ -462,8 +458,7 @@ uint32_t lpt_end_execute_given(LptEnd *end, const uint8_t *octets, size_t octets
  * this number (LptFailure, 1 to 8). If the message is no telecommand of the end's APID, there is no
  * report. *applied is as after an execution that failed with that code.
  * Use this call if the request reads more than the program can at once, or if its memory can't be
- * read or written. If some of the request was written, write the old octets back first. Less is
- * proved about programs that refuse or drop requests themselves: docs/C.md says what.
+ * read or written. If some of the request was written, write the old octets back first.
  * LPT_DONE, and *applied is written; LPT_E_RANGE for another number; LPT_E_NO_JOB, as always on
  * ground; LPT_E_NOT_READ; LPT_E_UNSENT; LPT_E_ALLOCATION.
  */
@@ -473,7 +468,7 @@ uint32_t lpt_end_refuse(LptEnd *end, uint16_t number, LptApplied *applied);
 /*
  * Drops the oldest request, which must have been read, in place of executing it. The request is
  * never executed, and there is no report of this (lpt_end_refuse makes one). If some of the request
- * was written, write the old octets back first. Less is proved about such programs too.
+ * was written, write the old octets back first.
  * LPT_DONE; LPT_E_NO_JOB, as always on ground; LPT_E_NOT_READ.
  */
 LPT_MUST_USE

@@ -363,8 +363,8 @@ class End(Handle):
             found.append((out.memory, Area(out.address, out.len)))
 
     def drop(self) -> bool:
-        """Drops the oldest request that wasn't read, in place of `read`: it is never executed. When
-        its turn comes, `execute` returns SILENT. False if there is no such request."""
+        """Drops the oldest request of all, in place of `read`: it is never executed, and nothing is
+        reported of it. False if there is none. Raises `AlreadyRead` if it was read, or `Allocation`."""
         return not self._unless(_NO_JOB, self._call(_end.lpt_end_drop))
 
     def serve(self, keep_open: bool = False) -> Iterator[bytes]:

@@ -370,6 +370,12 @@ class ClockStart(Fault, ValueError):
     number = 125
 
 
+class AlreadyRead(Fault):
+    """The oldest request was read already."""
+
+    number = 126
+
+
 #: Each fault by its number.
 BY_NUMBER: dict[int, type[Fault]] = {it.number: it for it in Fault.__subclasses__()}
 

@@ -155,7 +155,7 @@ class Why(IntEnum):
 
 class AppliedKind(IntEnum):
     """What became of a request. OPENED: it was carried out, and its report is open to be sent in
-    parts. SILENT: it is no telecommand of the APID, or was dropped: nothing was done."""
+    parts. SILENT: it is no telecommand of the APID: nothing was done."""
 
     CARRIED_OUT = 1
     OPENED = 2

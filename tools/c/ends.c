@@ -860,7 +860,7 @@ static void long_release(LptEnd *craft) {
     lpt_end_free(ground);
 }
 
-/* Of two requests the first is dropped, and the second executed. */
+/* Of three requests the first and the last are dropped, and the second executed. */
 static void dropped(void) {
     static const LptTcHead head = {100, 0, 1 + 8, 6, 9, 1};
     static const uint8_t check[] = {1, 1, 0, 0, 0, 0, 0, 4};
@@ -878,14 +878,16 @@ static void dropped(void) {
     DONE(lpt_end_asked(craft, &service, &subtype));
     EXPECT(service == 6 && subtype == 9 && has(craft, CONFIG.clock, 0, 0, 2, 2));
     DONE(lpt_end_drop(craft));
-    EXPECT(has(craft, CONFIG.clock, 0, 0, 1, 2));
+    EXPECT(has(craft, CONFIG.clock, 0, 0, 1, 1) && !take_packet(craft));
     DONE(lpt_end_read(craft));
-    EXPECT(lpt_end_drop(craft) == LPT_E_NO_JOB);
-    DONE(lpt_end_execute(craft, &applied));
-    EXPECT(applied.kind == LPT_APPLIED_SILENT && !take_packet(craft));
+    EXPECT(lpt_end_drop(craft) == LPT_E_ALREADY_READ);
     EXPECT(has(craft, CONFIG.clock, 0, 0, 0, 1));
+    EXPECT(command(craft, head, check, sizeof check).kind == LPT_OUTCOME_PLAIN_RELEASED);
+    EXPECT(lpt_end_drop(craft) == LPT_E_ALREADY_READ);
     DONE(lpt_end_execute(craft, &applied));
     EXPECT(applied.kind == LPT_APPLIED_CARRIED_OUT && take_packet(craft));
+    DONE(lpt_end_drop(craft));
+    EXPECT(lpt_end_execute(craft, &applied) == LPT_E_NO_JOB);
     long_release(craft);
     EXPECT(lpt_end_asked(craft, &service, &subtype) == LPT_E_NOTHING && subtype == 9);
     lpt_end_free(craft);

@@ -3,6 +3,9 @@ use Rattle.std.specs.Prelude.{ℕ, ◌+◌, ◌-◌, ◌<◌, List, Option, None
 use Rattle.lpt_packet.specs.declared.direction.Direction.{Direction}
 use Rattle.lpt_packet.specs.Names.{IsName, Name}
 use Rattle.lpt_packet.specs.Numbers.{IsOctets}
+use Rattle.lpt_pus.specs.declared.failure_code.FailureCode.{FailureCode}
+use Rattle.lpt_execution.specs.declared.ending.Ending.{Ending}
+use Rattle.lpt_execution.specs.declared.ending.Ending.TheVariants.{Silent, Refused}
 use Rattle.lpt_events.specs.declared.config.Config.{Config}
 use Rattle.lpt_events.specs.declared.event.Event.{Event}
 use Rattle.lpt_events.specs.declared.event.Event.TheVariants as event
@@ -53,10 +56,27 @@ limits_set On before = before
 limits_set (Back n) before = before
 limits_set (Within l) before = l
 
+-- ---- requests
+
+-- how the oldest request leaves the queue: it is executed, it is refused with this failure code, or
+-- it is dropped
+pub data Leaving : Type 0 where
+  Execute : Leaving
+  Refuse : FailureCode → Leaving
+  Drop : Leaving
+
+-- how one ends that leaves so, if its execution would end like this: of one that is dropped nothing
+-- is told
+abbrev pub ending_by : Leaving → Ending → Ending
+ending_by Execute end = end
+ending_by (Refuse code) end = Refused code
+ending_by Drop end = Silent
+
 -- ---- acts
 
 -- Each is the event of its name. But a node may also set its clock back or have other limits, as a
--- `Tick`, and the open reception of a name that is given may expire before its time.
+-- `Tick`, the open reception of a name that is given may expire before its time, and the oldest
+-- request may leave the queue without being executed.
 pub data Act : Type 0 where
   Open : Direction → Name → (message : List ℕ) → Act
   Send : Direction → Name → (part : ℕ) → Act
@@ -70,7 +90,7 @@ pub data Act : Type 0 where
   Expire : Side → Option Name → Act
   Claim : Worker → Act
   Commit : Worker → Act
-  Apply : Act
+  Apply : Leaving → Act
   Retire : Direction → Name → Act
   Restart : Side → Act
 
@@ -88,7 +108,7 @@ act_of (event.Tick side) = Tick side On
 act_of (event.Expire side) = Expire side None
 act_of (event.Claim w) = Claim w
 act_of (event.Commit w) = Commit w
-act_of event.Apply = Apply
+act_of event.Apply = Apply Execute
 act_of (event.Retire d name) = Retire d name
 act_of (event.Restart side) = Restart side
 
@@ -107,6 +127,6 @@ IsAct (Tick side turn) = ⊤
 IsAct (Expire side which) = ⊤
 IsAct (Claim w) = ⊤
 IsAct (Commit w) = ⊤
-IsAct Apply = ⊤
+IsAct (Apply how) = ⊤
 IsAct (Retire d name) = IsName name
 IsAct (Restart side) = ⊤

@@ -87,7 +87,7 @@ later_event : (e : Act) (ps : List SentPacket) (log : Log) (f : Fact)
     → Contains log f
     → Contains (with_event e ps log) f
 later_event (Plain source flags service subtype body) ps log f had = later_asked ps log f had
-later_event Apply ps log f had = later _ log f had
+later_event (Apply how) ps log f had = later _ log f had
 later_event (Retire d name) ps log f had = later _ log f had
 later_event (Restart side) ps log f had = later _ log f had
 later_event e ps log f had = had
@@ -170,7 +170,7 @@ module _ (c : Config) (first : Contents) (good : IsConfig c) where
         go : (o : Option Name) → slice_get (expiry_puts c h side o) n ≡ Some p → ⊥
         go None k = no_place n p k
         go (Some name) k = let down : Up ≡ Down = sym up ∙ abort_down c h side name _ n p k in cc
-  asked_now Apply h log n p b put f up is =
+  asked_now (Apply how) h log n p b put f up is =
       absurd (let down : Up ≡ Down = sym up ∙ reports_down _ n p f in cc)
   asked_now e h log n p b put f up is = absurd (no_place n p f)
 

@@ -192,7 +192,7 @@ module _ (c : Config) (first : Contents) (h : History) (d : Direction) (name : N
       (judged_tells c h (lane_direction l) (in_hand c h l))
   event_awaits (Expire side which) free =
       ended side which (given_up c h (direction_to side) which)
-  event_awaits Apply free = opened (opens c first h Apply) free
+  event_awaits (Apply how) free = opened (opens c first h (Apply how)) free
   event_awaits (Retire e i) free = go (same_direction e d && same_name i name) where
     go : (b : Bool)
         → ◌≡◌ {A = Option (List ℕ)} (if b then None else message_awaited log d name)

@@ -14,10 +14,9 @@ use Rattle.lpt_acts.specs.Acts as act
 use Rattle.lpt_events.specs.declared.side.Side.{Side}
 use Rattle.lpt_events.specs.declared.side.Side.TheVariants.{Ground, Craft}
 use Rattle.lpt_node.specs.Accepting.{packet_accepted}
-use Rattle.lpt_node.specs.Jobs.{job_executed}
 use Rattle.lpt_node.specs.Nodes.{NodeData}
 use Rattle.lpt_node.specs.declared.accepted.Accepted.{Accepted}
-use Rattle.lpt_model.specs.State.{State, end_of}
+use Rattle.lpt_model.specs.State.{State, end_of, job_left}
 use Rattle.lpt_journal.specs.Journal.{History}
 use Rattle.lpt_journal.specs.Legal.{Legal}
 use Rattle.lpt_journal.specs.Replies.{history_after}
@@ -31,7 +30,7 @@ use Rattle.lpt_apart.proofs.Events.{open_came}
 use Rattle.lpt_apart.proofs.Freely.{steps_are_moves}
 use Rattle.lpt_apart.proofs.Played.{worlds_are_ends}
 use Rattle.lpt_apart.proofs.Players.{HasInHand, has_in_hand, arrives}
-use Rattle.lpt_apart.proofs.Telling.{execution_opens, delivery_came}
+use Rattle.lpt_apart.proofs.Telling.{leaving_opens, delivery_came}
 use Rattle.lpt_apart.proofs.Ties.{IsLonger, longer, not_refused}
 
 module _ (c : Config) (first : Contents) (es : List Act) (d : Direction) (name : Name) (k : ℕ)
@@ -76,14 +75,14 @@ module _ (c : Config) (first : Contents) (es : List Act) (d : Direction) (name :
       (ap (λ (n : NodeData). packet_accepted (receiver_side w) c n a)
       (sym (node (receiver_side w))))
       d name k)
-  event_brings act.Apply legal =
-      let reports : is_reported (job_executed c ends.on_craft ends.memories).0.1.opened d name
-      ≡ is_reported (job_executed c s.on_craft s.memories).0.1.opened d name =
-      (λ i. is_reported (job_executed c (sym are.craft i) (sym are.memories i)).0.1.opened d
+  event_brings (act.Apply how) legal =
+      let reports : is_reported (job_left how c ends.on_craft ends.memories).0.1.opened d name
+      ≡ is_reported (job_left how c s.on_craft s.memories).0.1.opened d name =
+      (λ i. is_reported (job_left how c (sym are.craft i) (sym are.memories i)).0.1.opened d
       name) in
       let opens = reports
-      ∙ sym (execution_opens c first s ends.log es are.shown are.log
-      (more act.Apply legal) d name)
+      ∙ sym (leaving_opens c first s ends.log es are.shown are.log how
+      (more (act.Apply how) legal) d name)
       in
       (λ i. if opens i then false else had i)
   event_brings (act.Restart side) legal =

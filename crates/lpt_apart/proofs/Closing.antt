@@ -12,6 +12,7 @@ use Rattle.lpt_events.specs.declared.config.Config.{Config}
 use Rattle.lpt_events.specs.declared.side.Side.{Side}
 use Rattle.lpt_events.specs.declared.side.Side.TheVariants.{Ground, Craft}
 use Rattle.lpt_execution.specs.declared.ending.Ending.{Ending}
+use Rattle.lpt_execution.specs.declared.ending.Ending.TheVariants.{Refused}
 use Rattle.lpt_execution.specs.declared.ending.Report.{Report}
 use Rattle.lpt_execution.specs.Reporting.{message_reports, request_source, large_packets, opened_of}
 use Rattle.lpt_jobs.specs.Jobs.{Head, NoJob, NotReady, Ready, head_of, oldest_unclaimed}
@@ -21,7 +22,7 @@ use Rattle.lpt_ledger.specs.States.{state_of, state_at, closed_state}
 use Rattle.lpt_ledger.specs.declared.state.State.{State as Known}
 use Rattle.lpt_ledger.specs.declared.state.State.TheVariants as known
 use Rattle.lpt_node.specs.Accepting.{packet_accepted}
-use Rattle.lpt_node.specs.Jobs.{job_claimed, claimed_of, job_committed, ending_at, report_packets, reports_made, job_executed, executed_with, executed_of}
+use Rattle.lpt_node.specs.Jobs.{job_claimed, claimed_of, job_committed, ending_at, report_packets, reports_made, executed_with, executed_ending, executed_of, executed_so}
 use Rattle.lpt_node.specs.Nodes.{Sending, NodeData, message_at}
 use Rattle.lpt_part.specs.declared.reason.Reason.TheVariants as reason
 use Rattle.lpt_node.specs.Receivers.{abort_report, reception_ended}
@@ -31,6 +32,7 @@ use Rattle.lpt_node.specs.Restarts.{node_restarted, node_within}
 use Rattle.lpt_node.specs.Times.{clock_ticked, expired_of, clock_back, which_ends}
 use Rattle.lpt_node.specs.declared.accepted.Accepted.{Accepted}
 use Rattle.lpt_events.specs.NamedParts.{NamedPart}
+use Rattle.lpt_model.specs.State.{job_left}
 use Rattle.lpt_model.specs.Tickets.{ticket_of}
 use Rattle.lpt_ledger.proofs.ClosingLemmas.{state_at-all_closed}
 use Rattle.lpt_ledger.proofs.FirstLemmas.{IsLeastFree-least_free_in}
@@ -41,7 +43,7 @@ use Rattle.lpt_apart.proofs.Fewer.{offer, all_parts, made_of, parted_is}
 use Rattle.lpt_apart.proofs.Lessening.{committed_by, report_ledger}
 use Rattle.lpt_apart.proofs.Offers.{offer_sending}
 use Rattle.lpt_apart.specs.Steps.{Step, Open, Send, Plain, Finish, Accept, Tick, Expire, Claim, Commit, Apply, Retire, Restart, CanHappen, committed_on, after}
-use Rattle.lpt_acts.specs.Acts.{On, Back, Within}
+use Rattle.lpt_acts.specs.Acts.{Leaving, Execute, Refuse, Drop, On, Back, Within}
 
 -- ---- ledgers
 
@@ -168,20 +170,39 @@ executed_with_closed c n peer end rs (Some x) name free had =
     ap (λ (m : Marks). state_at (maps.insert m x.0 Opened) name) (reported_ledger n.sending rs)
     ∙ kept_open n.sending.ledger name x.0 (free x refl) had
 
-executed_closed : (c : Config) (n : NodeData) (ms : Contents) (x : Head) (name : Name)
+ending_closed : (c : Config) (n : NodeData) (end : Ending) (r : Source) (name : Name)
     → state_at n.sending.ledger name ≡ known.Closed
-    → state_at (executed_of c n ms x).0.0.sending.ledger name ≡ known.Closed
-executed_closed c n ms NoJob name had = had
-executed_closed c n ms NotReady name had = had
-executed_closed c n ms (Ready r) name had =
+    → state_at (executed_ending c n r end).0.sending.ledger name ≡ known.Closed
+ending_closed c n end r name had =
     let peer : ℕ = request_source r.apid r.message in
-    let end : Ending = ending_at c n ms r in
     let rs : List Report = message_reports r.apid r.message end in
     let bs : List (List ℕ) =
     large_packets c.part_size (report_packets c peer n.sending n.clock rs) in
     executed_with_closed c n peer end rs (opened_of (least_free_in n.sending.ledger peer) bs) name
     (λ x is. opened_free n.sending.ledger peer (least_free_in n.sending.ledger peer) bs x
     (IsLeastFree-least_free_in n.sending.ledger peer) is) had
+
+executed_closed : (c : Config) (n : NodeData) (ms : Contents) (x : Head) (name : Name)
+    → state_at n.sending.ledger name ≡ known.Closed
+    → state_at (executed_of c n ms x).0.0.sending.ledger name ≡ known.Closed
+executed_closed c n ms NoJob name had = had
+executed_closed c n ms NotReady name had = had
+executed_closed c n ms (Ready r) name had = ending_closed c n (ending_at c n ms r) r name had
+
+so_closed : (c : Config) (n : NodeData) (end : Ending) (x : Head) (name : Name)
+    → state_at n.sending.ledger name ≡ known.Closed
+    → state_at (executed_so c n (λ r. end) x).0.sending.ledger name ≡ known.Closed
+so_closed c n end NoJob name had = had
+so_closed c n end NotReady name had = had
+so_closed c n end (Ready r) name had = ending_closed c n end r name had
+
+left_closed : (how : Leaving) (c : Config) (n : NodeData) (ms : Contents) (name : Name)
+    → state_at n.sending.ledger name ≡ known.Closed
+    → state_at (job_left how c n ms).0.0.sending.ledger name ≡ known.Closed
+left_closed Execute c n ms name had = executed_closed c n ms (head_of n.jobs.jobs) name had
+left_closed (Refuse code) c n ms name had =
+    so_closed c n (Refused code) (head_of n.jobs.jobs) name had
+left_closed Drop c n ms name had = had
 
 -- ---- ends
 
@@ -282,10 +303,10 @@ closed_stays c e (Commit w) d name can stays had = go (ticket_of e.tickets w) wh
       (λ shut. ap (λ (m : Marks). state_at m name) (committed_ledger e.on_craft t.boot t.job r)
       ∙ shut)
       had
-closed_stays c e Apply d name can stays had =
-    let x = job_executed c e.on_craft e.memories in
-    changed e (after c e Apply) Craft x.0.0 d name refl refl
-    (executed_closed c e.on_craft e.memories (head_of e.on_craft.jobs.jobs) name) had
+closed_stays c e (Apply how) d name can stays had =
+    let x = job_left how c e.on_craft e.memories in
+    changed e (after c e (Apply how)) Craft x.0.0 d name refl refl
+    (left_closed how c e.on_craft e.memories name) had
 closed_stays c e (Retire way i) d name can stays had = absurd stays
 closed_stays c e (Restart side) d name can stays had =
     let n : NodeData = node_at e side in

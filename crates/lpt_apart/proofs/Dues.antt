@@ -11,7 +11,7 @@ use Rattle.lpt_events.specs.Configs.{IsConfig}
 use Rattle.lpt_events.specs.declared.config.Config.{Config}
 use Rattle.lpt_events.specs.declared.entry.Opening.{Opening}
 use Rattle.lpt_events.specs.declared.entry.Release.{Release}
-use Rattle.lpt_acts.specs.Acts.{Act, Plain, Deliver, Expire, Apply, Retire, Restart}
+use Rattle.lpt_acts.specs.Acts.{Leaving, Act, Plain, Deliver, Expire, Apply, Retire, Restart}
 use Rattle.lpt_events.specs.declared.fault.StepFault.TheVariants.{NoJob, NotReady}
 use Rattle.lpt_events.specs.declared.outcome.Outcome.TheVariants.{Broken}
 use Rattle.lpt_events.specs.declared.reply.Answer.{Answer}
@@ -29,7 +29,7 @@ use Rattle.lpt_journal.proofs.AbortionOwed.{owes_abortion}
 use Rattle.lpt_journal.proofs.HeadlineLemmas.{every, owes_releases}
 use Rattle.lpt_journal.proofs.Releasing.{OwesReleases}
 use Rattle.lpt_journal.proofs.TestLemmas.{two_pass}
-use Rattle.lpt_apart.specs.Facts.{Asked, Released, Aborted, Executed, Log, waiting, IsDue, AllDue}
+use Rattle.lpt_apart.specs.Facts.{Asked, Released, Aborted, Left, Log, waiting, IsDue, AllDue}
 use Rattle.lpt_apart.specs.Told.{with_openings, with_releases, with_ended, with_asked, with_event, log_told}
 use Rattle.lpt_apart.proofs.Asking.{release_asked}
 use Rattle.lpt_apart.proofs.Awaiting.{awaited_releases, is_awaited}
@@ -43,10 +43,10 @@ module _ (c : Config) (first : Contents) (good : IsConfig c) where
 
   event_due : (e : Act) (ps : List SentPacket) (log : Log)
       → AllDue log
-      → (e ≡ Apply → IsDue Executed log)
+      → ((how : Leaving) → e ≡ Apply how → IsDue (Left how) log)
       → AllDue (with_event e ps log)
   event_due (Plain source flags service subtype body) ps log all waits = asked_due ps log all
-  event_due Apply ps log all waits = (all, waits refl)
+  event_due (Apply how) ps log all waits = (all, waits how refl)
   event_due (Retire d name) ps log all waits = (all, tt)
   event_due (Restart side) ps log all waits = (all, tt)
   event_due e ps log all waits = all
@@ -79,16 +79,17 @@ module _ (c : Config) (first : Contents) (good : IsConfig c) where
   releases_due (r ∷ []) log all one due = (all, due r refl)
   releases_due (r ∷ s ∷ rs) log all one due = absurd (omega (arith, one 1 s refl))
 
-  -- a request that an event executes waits
-  execution_due : (e : Act) (es : List Act)
+  -- a request that an event lets leave waits
+  leaving_due : (e : Act) (es : List Act)
       → Legal c first (e ∷ es)
-      → e ≡ Apply
+      → (how : Leaving)
+      → e ≡ Apply how
       → 0 < length (waiting (with_openings (opens c first (history_after c first es) e)
       (with_ended e (answer c first (history_after c first es) e)
       (with_releases
       (released_by c (entry c first (history_after c first es) e) (history_after c first es))
       (log_told c (history_after c first es))))))
-  execution_due Apply es legal is =
+  leaving_due (Apply how) es legal other is =
       let h : History = history_after c first es in
       let passed =
       two_pass (not (is_some (front_job c h))) (not (is_committed h (jobs_applied h))) NoJob
@@ -97,14 +98,15 @@ module _ (c : Config) (first : Contents) (good : IsConfig c) where
       let front = some_is (front_job c h) (not_false (is_some (front_job c h)) passed.0) in
       let within : jobs_applied h < length (jobs c h) =
       slice_get_within (jobs c h) (jobs_applied h) front.0 front.1 in
-      let many : length (waiting (with_openings (front_opens c first h) (log_told c h)))
+      let many : length (waiting (with_openings (front_opens c first h how) (log_told c h)))
       ≡ length (jobs c h) - jobs_applied h =
       ap (λ (ws : List (List ℕ)). length ws)
-      (waiting_openings (front_opens c first h) (log_told c h) ∙ waiting_told c first es legal.0)
+      (waiting_openings (front_opens c first h how) (log_told c h)
+      ∙ waiting_told c first es legal.0)
       ∙ length-map (drop (jobs_applied h) (jobs c h)) (λ (r : Release). r.message)
       ∙ length-drop (jobs_applied h) (jobs c h) in
       omega (arith, within, many)
-  execution_due e es legal is = absurd cc
+  leaving_due e es legal other is = absurd cc
 
   -- the log of a legal journal is due
   pub all_due : (es : List Act) → Legal c first es → AllDue (log_told c (history_after c first es))
@@ -114,7 +116,7 @@ module _ (c : Config) (first : Contents) (good : IsConfig c) where
       (openings_due x.opens over
       (ended_due (length h) e x.reply.answer released
       (releases_due (released_by c x h) (log_told c h) (all_due es legal.0) owes.one release)
-      abortion)) (execution_due e es legal) where
+      abortion)) (leaving_due e es legal) where
         h : History
         h = history_after c first es
 

@@ -8,7 +8,7 @@ use Rattle.lpt_packet.specs.Names.{Name}
 use Rattle.lpt_memory.specs.Memories.{Contents}
 use Rattle.lpt_memory.specs.Readings.{Job}
 use Rattle.lpt_events.specs.Configs.{IsConfig}
-use Rattle.lpt_acts.specs.Acts.{IsAct, Act, act_of, Open, Send, Plain, Finish, Tick, Expire, Claim, Commit, Apply, Restart, Setting, On, Back, Within}
+use Rattle.lpt_acts.specs.Acts.{IsAct, Act, act_of, Open, Send, Plain, Finish, Tick, Expire, Claim, Commit, Apply, Restart, Leaving, Execute, Refuse, Drop, Setting, On, Back, Within}
 use Rattle.lpt_events.specs.Sides.{direction_to}
 use Rattle.lpt_events.specs.declared.config.Config.{Config}
 use Rattle.lpt_events.specs.declared.event.Event.{Event}
@@ -20,13 +20,13 @@ use Rattle.lpt_events.specs.declared.worker.Worker.{Worker}
 use Rattle.lpt_jobs.specs.Jobs.{Head, NoJob, NotReady, Ready, head_of, is_claimed}
 use Rattle.lpt_link.specs.Links.{hand_of}
 use Rattle.lpt_node.specs.Faults.{node_fault}
-use Rattle.lpt_node.specs.Jobs.{FrontIsFor, refusal_apply_of, job_executed}
+use Rattle.lpt_node.specs.Jobs.{FrontIsFor, refusal_apply_of}
 use Rattle.lpt_node.specs.Requests.{plain_made}
 use Rattle.lpt_node.specs.Sending.{part_sent}
 use Rattle.lpt_node.specs.Nodes.{NodeData}
 use Rattle.lpt_node.specs.Times.{expired_of, which_ends}
 use Rattle.lpt_node.specs.declared.expired.Expired.{Expired as Ended}
-use Rattle.lpt_model.specs.State.{State, after, as_list, committed_on, refusal_of, refusal_claim_by, refusal_commit_of}
+use Rattle.lpt_model.specs.State.{State, after, as_list, committed_on, job_left, refusal_of, refusal_claim_by, refusal_commit_of}
 use Rattle.lpt_model.specs.Tickets.{ticket_of}
 use Rattle.lpt_refinement.specs.Shows.{Shows}
 use Rattle.lpt_refinement.specs.Views.{views}
@@ -34,14 +34,14 @@ use Rattle.lpt_events.specs.declared.entry.Opening.{Opening}
 use Rattle.lpt_journal.specs.Replies.{history_after}
 use Rattle.lpt_journal.specs.Whole.{came}
 use Rattle.lpt_apart.specs.Ends.{PutOut, put_out}
-use Rattle.lpt_apart.specs.Facts.{Opened, Asked, Aborted, Executed, Restarted, Log, is_same}
+use Rattle.lpt_apart.specs.Facts.{Opened, Asked, Aborted, Left, Restarted, Log, is_same}
 use Rattle.lpt_apart.specs.Steps.{CanHappen, with_report}
 use Rattle.lpt_apart.specs.Steps as steps
 use Rattle.lpt_apart.specs.Told.{log_told}
 use Rattle.lpt_apart.specs.Whole.{came_after}
 use Rattle.lpt_apart.specs.Worlds.{IsEventStep, IsOfAnEvent, IsReadyNode}
 use Rattle.lpt_apart.proofs.Links.{AllHeld, put_held, put_hands}
-use Rattle.lpt_apart.proofs.Telling.{plain_told, expiry_told, execution_told, execution_opens}
+use Rattle.lpt_apart.proofs.Telling.{plain_told, expiry_told, leaving_told, leaving_opens}
 use Rattle.lpt_apart.proofs.Ties.{ends_of, IsTied, Came, Leads, longer}
 
 -- nothing came of what is opened now
@@ -282,20 +282,31 @@ module _ (c : Config) (first : Contents) (usual : Type 0) (s : State) (ways : Li
           comes = λ d name k. refl;
         }
 
-  pub apply : CanHappen c (ends_of s ways log) steps.Apply
-      → Leads c first usual (steps.after c (ends_of s ways log) steps.Apply) (came_on steps.Apply)
-  apply can =
-      let free : refusal_of c s Apply ≡ None = ap (option_map node_fault) can in
-      let x = job_executed c s.on_craft s.memories in
-      once Apply (of event.Apply) (put_out ways Down None x.0.1.packets)
-      (Executed ∷ with_report log x.0.1.opened) tt free
+  leaving : (how : Leaving)
+      → (usual → IsEventStep (steps.Apply how))
+      → usual
+      → IsOfAnEvent (Apply how)
+  leaving Execute h u = of event.Apply u
+  leaving (Refuse code) h u = absurd (h u)
+  leaving Drop h u = absurd (h u)
+
+  pub apply : (how : Leaving)
+      → (usual → IsEventStep (steps.Apply how))
+      → CanHappen c (ends_of s ways log) (steps.Apply how)
+      → Leads c first usual (steps.after c (ends_of s ways log) (steps.Apply how))
+      (came_on (steps.Apply how))
+  apply how of_events can =
+      let free : refusal_of c s (Apply how) ≡ None = ap (option_map node_fault) can in
+      let x = job_left how c s.on_craft s.memories in
+      once (Apply how) (leaving how of_events) (put_out ways Down None x.0.1.packets)
+      (Left how ∷ with_report log x.0.1.opened) tt free
       (λ l. put_hands s.link Down None x.0.1.packets l ∙ t.hands l)
       (put_held s.link ways Down None x.0.1.packets t.held)
-      (execution_told c first s log es t.shown t.tells
-      (longer c first s es Apply good t.legal t.shown tt free))
+      (leaving_told c first s log es t.shown t.tells how
+      (longer c first s es (Apply how) good t.legal t.shown tt free))
       (λ e i k. ap (λ (b : Bool). if b then false else came c (history_after c first es) e i k)
-      (execution_opens c first s log es t.shown t.tells
-      (longer c first s es Apply good t.legal t.shown tt free) e i))
+      (leaving_opens c first s log es t.shown t.tells how
+      (longer c first s es (Apply how) good t.legal t.shown tt free) e i))
 
   -- ---- what the node asks for besides
 
@@ -317,10 +328,10 @@ module _ (c : Config) (first : Contents) (usual : Type 0) (s : State) (ways : Li
     go NoJob is = tt
     go NotReady is = tt
     go (Ready r) is =
-        let free : refusal_of c s Apply ≡ None =
+        let free : refusal_of c s (Apply Execute) ≡ None =
         ap (λ (x : Head). option_map node_fault (refusal_apply_of x)) is in
         subst (λ (x : Head). FrontIsFor x c.apid s.memories) is
-        (longer c first s es Apply good t.legal t.shown tt free).ready
+        (longer c first s es (Apply Execute) good t.legal t.shown tt free).ready
 
   pub ready : IsReadyNode c (ends_of s ways log)
   ready = record { commits = commits; executes = executes }

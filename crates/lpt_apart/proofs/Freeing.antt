@@ -15,28 +15,29 @@ use Rattle.lpt_events.specs.declared.outcome.Outcome.{Outcome}
 use Rattle.lpt_events.specs.declared.side.Side.{Side}
 use Rattle.lpt_events.specs.declared.side.Side.TheVariants.{Ground, Craft}
 use Rattle.lpt_events.specs.declared.worker.Worker.{Worker}
-use Rattle.lpt_jobs.specs.Jobs.{head_of, oldest_unclaimed}
+use Rattle.lpt_jobs.specs.Jobs.{oldest_unclaimed}
 use Rattle.lpt_ledger.specs.Marks.{Marks}
 use Rattle.lpt_node.specs.declared.accepted.Accepted.{Accepted}
 use Rattle.lpt_node.specs.declared.expired.Expired.{Expired}
-use Rattle.lpt_node.specs.Jobs.{Execution, job_executed}
+use Rattle.lpt_node.specs.Jobs.{Execution}
 use Rattle.lpt_node.specs.Nodes.{Receiving, NodeData, message_at}
 use Rattle.lpt_node.specs.Times.{which_ends}
 use Rattle.lpt_table.specs.Tables.{Entries}
+use Rattle.lpt_model.specs.State.{job_left}
 use Rattle.lpt_model.specs.Tickets.{ticket_of}
 use Rattle.lpt_apart.specs.Ends.{Ends}
-use Rattle.lpt_apart.specs.Steps.{Step, Open, Send, Plain, Finish, Accept, Tick, Expire, Claim, Commit, Apply, Retire, Restart, CanHappen, after, sent_on, accepted_on, expired_on, claimed_on, committed_on, executed_on}
+use Rattle.lpt_apart.specs.Steps.{Step, Open, Send, Plain, Finish, Accept, Tick, Expire, Claim, Commit, Apply, Retire, Restart, CanHappen, after, sent_on, accepted_on, expired_on, claimed_on, committed_on, left_on}
 use Rattle.lpt_apart.specs.Whole.{came_by, is_reported, came_after}
 use Rattle.lpt_apart.specs.Worlds.{IsEventStep}
 use Rattle.lpt_apart.specs.Moves.{with_ledger, with_ledgers, KnowsLess}
-use Rattle.lpt_apart.proofs.Lessening.{sent_less, sent_receiving, claimed_less, claimed_receiving, committed_less, committed_receiving, executed_less, executed_receiving}
+use Rattle.lpt_apart.proofs.Lessening.{sent_less, sent_receiving, claimed_less, claimed_receiving, committed_less, committed_receiving, left_less, left_receiving}
 use Rattle.lpt_apart.proofs.Fewer.{accepted_less, expired_less}
 use Rattle.lpt_apart.proofs.Staleness.{is_stale}
 use Rattle.lpt_apart.proofs.Unheard.{not_freed}
 use Rattle.lpt_apart.proofs.Stepping.{lead_on}
 use Rattle.lpt_apart.proofs.Ties.{Came, Leads}
 use Rattle.lpt_apart.proofs.Freed.{IsLess, IsBut}
-use Rattle.lpt_acts.specs.Acts.{Limits, On, Back, Within}
+use Rattle.lpt_acts.specs.Acts.{Leaving, Limits, On, Back, Within}
 use Rattle.lpt_table.specs.SettingBack.{earlier, set_back}
 use Rattle.lpt_table.proofs.BackLemmas.{get-set_back}
 use Rattle.std.specs.Option.{option_map}
@@ -135,21 +136,22 @@ module _ (c : Config) (first : Contents) (usual : Type 0) (good : IsConfig c)
               message = t.message;
             })
 
-  apply : CanHappen c ends Apply
-      → IsBut c first usual freed (after c ends Apply) (came_with ends Apply)
-  apply can =
+  apply : (how : Leaving)
+      → (usual → IsEventStep (Apply how)) → CanHappen c ends (Apply how)
+      → IsBut c first usual freed (after c ends (Apply how)) (came_with ends (Apply how))
+  apply how of_events can =
       let same : ◌≡◌ {A = (NodeData × Execution) × Contents} (
         (
-          with_ledger k (job_executed c w.on_craft w.memories).0.0,
-          (job_executed c w.on_craft w.memories).0.1,
+          with_ledger k (job_left how c w.on_craft w.memories).0.0,
+          (job_left how c w.on_craft w.memories).0.1,
         ),
-        (job_executed c w.on_craft w.memories).1,
-      ) (job_executed c ends.on_craft w.memories) =
-      sym (executed_less c k w.on_craft w.memories (head_of w.on_craft.jobs.jobs)) in
-      quiet Apply (λ u. tt) can
-      (ap (λ (x : (NodeData × Execution) × Contents). executed_on ends x) same)
+        (job_left how c w.on_craft w.memories).1,
+      ) (job_left how c ends.on_craft w.memories) =
+      sym (left_less how c k w.on_craft w.memories) in
+      quiet (Apply how) of_events can
+      (ap (λ (x : (NodeData × Execution) × Contents). left_on how ends x) same)
       (λ i d name n. if is_reported (same i).0.1.opened d name then false else parts d name n)
-      refl (executed_receiving c w.on_craft w.memories (head_of w.on_craft.jobs.jobs))
+      refl (left_receiving how c w.on_craft w.memories)
 
   -- ---- moves of a receiver
 
@@ -393,6 +395,6 @@ module _ (c : Config) (first : Contents) (usual : Type 0) (good : IsConfig c)
   step (Expire side which) of_events can plain = expire side which of_events can
   step (Claim v) of_events can plain = claim v can
   step (Commit v) of_events can plain = commit v can
-  step Apply of_events can plain = apply can
+  step (Apply how) of_events can plain = apply how of_events can
   step (Retire d name) of_events can plain = absurd plain
   step (Restart side) of_events can plain = restart side can

@@ -4,18 +4,21 @@ use Rattle.std.proofs.Common.{◌≡◌, ◌∙◌, ap, sym, refl, ℕ, Bool, tr
 use Rattle.std.specs.FinMap as maps
 use Rattle.lpt_packet.specs.Names.{Name, same_name}
 use Rattle.lpt_packet.proofs.NameLemmas.{same_name-true}
+use Rattle.lpt_acts.specs.Acts.{Leaving, Execute, Refuse, Drop}
 use Rattle.lpt_memory.specs.Memories.{Contents, effect}
 use Rattle.lpt_memory.specs.Readings.{Source, source_meaning, Job}
 use Rattle.lpt_events.specs.declared.config.Config.{Config}
 use Rattle.lpt_events.specs.declared.side.Side.{Side}
-use Rattle.lpt_jobs.specs.Jobs.{Head, NoJob, NotReady, Ready, after_commit}
+use Rattle.lpt_jobs.specs.Jobs.{Head, NoJob, NotReady, Ready, head_of, after_commit}
 use Rattle.lpt_ledger.specs.Marks.{Mark, Marks, Shut}
 use Rattle.lpt_ledger.specs.States.{state_of, state_at}
 use Rattle.lpt_execution.specs.declared.ending.Ending.{Ending}
+use Rattle.lpt_execution.specs.declared.ending.Ending.TheVariants.{Refused}
 use Rattle.lpt_execution.specs.declared.ending.Report.{Report}
 use Rattle.lpt_execution.specs.Reporting.{message_reports, request_source, large_packets, opened_of}
 use Rattle.lpt_ledger.specs.LeastFree.{least_free_in}
-use Rattle.lpt_node.specs.Jobs.{Execution, claimed_of, job_committed, ending_at, report_packets, executed_with, executed_of}
+use Rattle.lpt_node.specs.Jobs.{Execution, claimed_of, job_committed, ending_at, report_packets, executed_with, executed_of, executed_so}
+use Rattle.lpt_model.specs.State.{job_left}
 use Rattle.lpt_node.specs.Nodes.{NodeData}
 use Rattle.lpt_node.specs.Receiving.{with_report}
 use Rattle.lpt_node.specs.Sending.{sent_of}
@@ -93,7 +96,7 @@ message_of c n r end =
     (report_packets c (request_source r.apid r.message) n.sending n.clock
     (message_reports r.apid r.message end)))
 
-pub executed_less : (c : Config) (m : Marks) (n : NodeData) (ms : Contents) (x : Head)
+executed_less : (c : Config) (m : Marks) (n : NodeData) (ms : Contents) (x : Head)
     → ◌≡◌ {A = (NodeData × Execution) × Contents} (executed_of c (with_ledger m n) ms x) (
       (with_ledger m (executed_of c n ms x).0.0, (executed_of c n ms x).0.1),
       (executed_of c n ms x).1,
@@ -107,7 +110,7 @@ executed_less c m n ms (Ready r) =
     (message_reports r.apid r.message end)
     (message_of c n r end))
 
-pub executed_receiving : (c : Config) (n : NodeData) (ms : Contents) (x : Head)
+executed_receiving : (c : Config) (n : NodeData) (ms : Contents) (x : Head)
     → (executed_of c n ms x).0.0.receiving ≡ n.receiving
 executed_receiving c n ms NoJob = refl
 executed_receiving c n ms NotReady = refl
@@ -116,6 +119,43 @@ executed_receiving c n ms (Ready r) =
     executed_with_receiving c n (request_source r.apid r.message) end
     (message_reports r.apid r.message end)
     (message_of c n r end)
+
+-- the same of one that leaves and ends so
+so_less : (c : Config) (m : Marks) (n : NodeData) (end : Ending) (x : Head)
+    → ◌≡◌ {A = NodeData × Execution} (executed_so c (with_ledger m n) (λ r. end) x)
+    (with_ledger m (executed_so c n (λ r. end) x).0, (executed_so c n (λ r. end) x).1)
+so_less c m n end NoJob = refl
+so_less c m n end NotReady = refl
+so_less c m n end (Ready r) =
+    executed_with_less c m n (request_source r.apid r.message) end
+    (message_reports r.apid r.message end)
+    (message_of c n r end)
+
+so_receiving : (c : Config) (n : NodeData) (end : Ending) (x : Head)
+    → (executed_so c n (λ r. end) x).0.receiving ≡ n.receiving
+so_receiving c n end NoJob = refl
+so_receiving c n end NotReady = refl
+so_receiving c n end (Ready r) =
+    executed_with_receiving c n (request_source r.apid r.message) end
+    (message_reports r.apid r.message end)
+    (message_of c n r end)
+
+pub left_less : (how : Leaving) (c : Config) (m : Marks) (n : NodeData) (ms : Contents)
+    → ◌≡◌ {A = (NodeData × Execution) × Contents} (job_left how c (with_ledger m n) ms) (
+      (with_ledger m (job_left how c n ms).0.0, (job_left how c n ms).0.1),
+      (job_left how c n ms).1,
+    )
+left_less Execute c m n ms = executed_less c m n ms (head_of n.jobs.jobs)
+left_less (Refuse code) c m n ms =
+    ap (λ (y : NodeData × Execution). (y, ms))
+    (so_less c m n (Refused code) (head_of n.jobs.jobs))
+left_less Drop c m n ms = refl
+
+pub left_receiving : (how : Leaving) (c : Config) (n : NodeData) (ms : Contents)
+    → (job_left how c n ms).0.0.receiving ≡ n.receiving
+left_receiving Execute c n ms = executed_receiving c n ms (head_of n.jobs.jobs)
+left_receiving (Refuse code) c n ms = so_receiving c n (Refused code) (head_of n.jobs.jobs)
+left_receiving Drop c n ms = refl
 
 -- ---- what does
 

@@ -17,9 +17,8 @@ use Rattle.lpt_ledger.specs.States.{state_at}
 use Rattle.lpt_events.specs.declared.worker.Worker.{Worker}
 use Rattle.lpt_link.specs.Links.{holds}
 use Rattle.lpt_node.specs.Faults.{node_fault}
-use Rattle.lpt_node.specs.Jobs.{job_executed}
 use Rattle.lpt_node.specs.Times.{expired_of, which_ends}
-use Rattle.lpt_model.specs.State.{State, no_state, after, as_list, is_gone, refusal_of, refusal_claim_by, committed_on}
+use Rattle.lpt_model.specs.State.{State, no_state, after, as_list, is_gone, refusal_of, refusal_claim_by, committed_on, job_left}
 use Rattle.lpt_model.specs.Tickets.{ticket_of}
 use Rattle.lpt_journal.specs.Legal.{Legal}
 use Rattle.lpt_journal.specs.Replies.{history_after}
@@ -27,13 +26,13 @@ use Rattle.lpt_refinement.proofs.Follows.{follows}
 use Rattle.lpt_journal.proofs.TestLemmas.{no_place}
 use Rattle.lpt_packet.proofs.BoolLemmas.{and_left, and_right, not_true}
 use Rattle.lpt_apart.specs.Ends.{PutOut, Ends, put_out, without}
-use Rattle.lpt_apart.specs.Facts.{Aborted, Executed, Retired, Restarted, Log}
+use Rattle.lpt_apart.specs.Facts.{Aborted, Left, Retired, Restarted, Log}
 use Rattle.lpt_apart.specs.Plays.{step_of, with_step, steps_of, WorldsAreEnds, AllForward, IsForward}
 use Rattle.lpt_apart.specs.Steps.{Step, with_report, ends_reached, CanRun}
 use Rattle.lpt_apart.specs.Steps as steps
 use Rattle.lpt_apart.specs.Told.{log_told}
 use Rattle.lpt_apart.proofs.Leaving.{AllHad, had_put, had_lost, had_retired}
-use Rattle.lpt_apart.proofs.Telling.{expiry_told, execution_told}
+use Rattle.lpt_apart.proofs.Telling.{expiry_told, leaving_told}
 use Rattle.lpt_apart.proofs.Ties.{ends_of, IsLonger, not_refused}
 use Rattle.lpt_apart.proofs.Players.{Plays, Goes, CanPlay, unmapped, no_ticket, some_ticket, retires_closed}
 use Rattle.lpt_apart.proofs.Playing as play
@@ -144,14 +143,14 @@ module _ (c : Config) (first : Contents) (s : State) (ways : List PutOut) (log :
     same None = refl
     same (Some j) = refl
 
-  applies : GoesOn act.Apply
-  applies legal =
-      let x = job_executed c s.on_craft s.memories in (
-        unmapped node_fault _ (free act.Apply legal),
-        plays act.Apply (put_out ways Down None x.0.1.packets)
-            (Executed ∷ with_report log x.0.1.opened) legal
+  applies : (how : act.Leaving) → GoesOn (act.Apply how)
+  applies how legal =
+      let x = job_left how c s.on_craft s.memories in (
+        unmapped node_fault _ (free (act.Apply how) legal),
+        plays (act.Apply how) (put_out ways Down None x.0.1.packets)
+            (Left how ∷ with_report log x.0.1.opened) legal
             (had_put c s.link ways Down None x.0.1.packets t.had)
-            (execution_told c first s log es t.shown t.tells (more act.Apply legal)),
+            (leaving_told c first s log es t.shown t.tells how (more (act.Apply how) legal)),
       )
 
   retires : (d : Direction) (name : Name) → GoesOn (act.Retire d name)
@@ -229,7 +228,7 @@ module _ (c : Config) (first : Contents) (s : State) (ways : List PutOut) (log :
   goes_on (act.Expire side which) on legal = expires side which legal
   goes_on (act.Claim w) on legal = claims w legal
   goes_on (act.Commit w) on legal = commits w legal
-  goes_on act.Apply on legal = applies legal
+  goes_on (act.Apply how) on legal = applies how legal
   goes_on (act.Retire d name) on legal = retires d name legal
   goes_on (act.Restart side) on legal = restarts side legal
 

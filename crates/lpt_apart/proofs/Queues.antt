@@ -7,7 +7,7 @@ use Rattle.lpt_memory.specs.Memories.{Contents}
 use Rattle.lpt_events.specs.declared.config.Config.{Config}
 use Rattle.lpt_events.specs.declared.entry.Opening.{Opening}
 use Rattle.lpt_events.specs.declared.entry.Release.{Release}
-use Rattle.lpt_acts.specs.Acts.{Act, Deliver, Expire, Apply, Restart}
+use Rattle.lpt_acts.specs.Acts.{Execute, Refuse, Drop, Act, Deliver, Expire, Apply, Restart}
 use Rattle.lpt_events.specs.declared.outcome.Outcome.{Outcome}
 use Rattle.lpt_events.specs.declared.outcome.Outcome.TheVariants.{Broken}
 use Rattle.lpt_events.specs.declared.reply.Answer.{Answer}
@@ -92,7 +92,7 @@ executed_expired side which a log = refl
 
 -- the first of a list from a place on is the one at the place
 front_is : (rs : List Release) (n : ℕ)
-    → take 1 (messages_of (drop n rs)) ≡ messages_of (executed_now Apply (slice_get rs n))
+    → take 1 (messages_of (drop n rs)) ≡ messages_of (executed_now (Apply Execute) (slice_get rs n))
 front_is [] zero = refl
 front_is [] (suc n) = refl
 front_is (r ∷ rs) zero = refl
@@ -123,7 +123,7 @@ module _ (c : Config) (first : Contents) where
       let sound = jobs_sound c first es legal
       in omega (arith, sound.applied_fits, sound.claimed_fits)
 
-  -- what waits are the jobs that aren't executed
+  -- what waits are the jobs that haven't left
   pub waiting_told : (es : List Act)
       → Legal c first es
       → waiting (log_told c (history_after c first es))
@@ -141,10 +141,10 @@ module _ (c : Config) (first : Contents) where
       let h : History = history_after c first es in
       waiting_expired side which (answer c first h (Expire side which)) (log_told c h)
       ∙ waiting_told es legal.0
-  waiting_told (Apply ∷ es) legal =
+  waiting_told (Apply how ∷ es) legal =
       let h : History = history_after c first es in
       ap (λ (ws : List (List ℕ)). drop 1 ws)
-      (waiting_openings (front_opens c first h) (log_told c h) ∙ waiting_told es legal.0)
+      (waiting_openings (front_opens c first h how) (log_told c h) ∙ waiting_told es legal.0)
       ∙ from_next (jobs c h) (jobs_applied h)
   waiting_told (Restart Ground ∷ es) legal = waiting_told es legal.0
   waiting_told (Restart Craft ∷ es) legal = refl
@@ -166,9 +166,9 @@ module _ (c : Config) (first : Contents) where
       let h : History = history_after c first es in
       executed_expired side which (answer c first h (Expire side which)) (log_told c h)
       ∙ executed_told es legal.0
-  executed_told (Apply ∷ es) legal =
+  executed_told (Apply Execute ∷ es) legal =
       let h : History = history_after c first es in
-      let opens : List Opening = front_opens c first h in
+      let opens : List Opening = front_opens c first h Execute in
       let waits : waiting (with_openings opens (log_told c h))
       ≡ messages_of (drop (jobs_applied h) (jobs c h)) =
       waiting_openings opens (log_told c h) ∙ waiting_told es legal.0 in
@@ -178,7 +178,15 @@ module _ (c : Config) (first : Contents) where
       (λ i. done i ++ take 1 (waits i))
       ∙ ap (λ (ms : List (List ℕ)). messages_of (was_executed c h) ++ ms)
       (front_is (jobs c h) (jobs_applied h))
-      ∙ sym (map-append message_of (was_executed c h) (executed_now Apply (front_job c h)))
+      ∙ sym (map-append message_of (was_executed c h)
+      (executed_now (Apply Execute) (front_job c h)))
       ∙ sym (ap messages_of
-      (with_all-append (was_executed c h) (executed_now Apply (front_job c h))))
+      (with_all-append (was_executed c h) (executed_now (Apply Execute) (front_job c h))))
+  executed_told (Apply (Refuse code) ∷ es) legal =
+      let h : History = history_after c first es in
+      executed_openings (front_opens c first h (Refuse code)) (log_told c h)
+      ∙ executed_told es legal.0
+  executed_told (Apply Drop ∷ es) legal =
+      let h : History = history_after c first es in
+      executed_openings (front_opens c first h Drop) (log_told c h) ∙ executed_told es legal.0
   executed_told (e ∷ es) legal = executed_told es legal.0

@@ -14,7 +14,7 @@ use Rattle.lpt_events.specs.Sides.{sender_side, receiver_side}
 use Rattle.lpt_events.specs.declared.config.Config.{Config}
 use Rattle.lpt_events.specs.declared.side.Side.{Side}
 use Rattle.lpt_events.specs.declared.side.Side.TheVariants.{Ground, Craft}
-use Rattle.lpt_node.specs.Jobs.{job_executed}
+use Rattle.lpt_model.specs.State.{job_left}
 use Rattle.lpt_node.specs.Nodes.{NodeData, message_at}
 use Rattle.lpt_node.specs.Accepting.{packet_accepted}
 use Rattle.lpt_node.specs.Requests.{plain_made}
@@ -138,8 +138,8 @@ none_step c e (Commit w) d name can stays mute none = go (ticket_of e.tickets w)
   go : (o : Option Job) → has_part d name (committed_on c e w o).on_the_way ≡ false
   go None = none
   go (Some t) = none
-none_step c e Apply d name can stays mute none =
-    none_put d name e.on_the_way Down (job_executed c e.on_craft e.memories).0.1.packets none
+none_step c e (Apply how) d name can stays mute none =
+    none_put d name e.on_the_way Down (job_left how c e.on_craft e.memories).0.1.packets none
 none_step c e (Retire way i) d name can stays mute none = absurd stays
 none_step c e (Restart side) d name can stays mute none =
     ap (has_part d name) (same_ways e side _) ∙ none

@@ -51,8 +51,8 @@ step c first usual s ways log es (Claim w) good t of_events can =
     claim c first usual s ways log es good t w can
 step c first usual s ways log es (Commit w) good t of_events can =
     commit c first usual s ways log es good t w can
-step c first usual s ways log es Apply good t of_events can =
-    apply c first usual s ways log es good t can
+step c first usual s ways log es (Apply how) good t of_events can =
+    apply c first usual s ways log es good t how of_events can
 step c first usual s ways log es (Retire d name) good t of_events can =
     retire c first usual s ways log es d name good t can
 step c first usual s ways log es (Restart side) good t of_events can =

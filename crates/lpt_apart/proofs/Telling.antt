@@ -11,7 +11,7 @@ use Rattle.lpt_events.specs.Sides.{receiver_side, direction_to}
 use Rattle.lpt_events.specs.declared.config.Config.{Config}
 use Rattle.lpt_events.specs.declared.entry.Opening.{Opening}
 use Rattle.lpt_events.specs.declared.entry.Release.{Release}
-use Rattle.lpt_acts.specs.Acts.{Act, Plain, Deliver, Expire, Apply}
+use Rattle.lpt_acts.specs.Acts.{Leaving, Act, Plain, Deliver, Expire, Apply}
 use Rattle.lpt_events.specs.declared.lane.Lane.{Lane}
 use Rattle.lpt_events.specs.declared.reply.Answer.{Answer}
 use Rattle.lpt_events.specs.declared.reply.Answer.TheVariants.{Delivered, Expired}
@@ -19,13 +19,12 @@ use Rattle.lpt_events.specs.declared.reply.Reply.{Reply}
 use Rattle.lpt_events.specs.declared.side.Side.{Side}
 use Rattle.lpt_link.specs.Links.{packet_in_hand}
 use Rattle.lpt_node.specs.Accepting.{packet_accepted}
-use Rattle.lpt_node.specs.Jobs.{job_executed}
 use Rattle.lpt_node.specs.Nodes.{NodeData}
 use Rattle.lpt_node.specs.Requests.{plain_made}
 use Rattle.lpt_node.specs.Times.{expired_of, which_ends}
 use Rattle.lpt_node.specs.declared.accepted.Accepted.{Accepted}
 use Rattle.lpt_node.specs.declared.expired.Expired.{Expired as Ended}
-use Rattle.lpt_model.specs.State.{State, end_of, as_list, arrival_held, add_release, add_opening, released_of}
+use Rattle.lpt_model.specs.State.{State, end_of, as_list, arrival_held, add_release, add_opening, released_of, job_left}
 use Rattle.lpt_refinement.specs.Shows.{Shows}
 use Rattle.lpt_refinement.specs.Views.{views}
 use Rattle.lpt_journal.specs.Delivery.{outcome}
@@ -37,7 +36,7 @@ use Rattle.lpt_journal.specs.Replies.{answer, history_after, entry}
 use Rattle.lpt_journal.specs.Senders.{is_opening_of, opened}
 use Rattle.lpt_journal.specs.Whole.{came}
 use Rattle.lpt_refinement.proofs.ArrivalsAgree.{arrival_agrees}
-use Rattle.lpt_apart.specs.Facts.{Asked, Aborted, Executed, Log, with_abortion}
+use Rattle.lpt_apart.specs.Facts.{Asked, Aborted, Left, Log, with_abortion}
 use Rattle.lpt_apart.specs.Steps.{with_release, with_report}
 use Rattle.lpt_apart.specs.Told.{with_releases, with_ended, log_told}
 use Rattle.lpt_apart.specs.Whole.{came_by, is_reported}
@@ -78,30 +77,33 @@ module _ (c : Config) (first : Contents) (s : State) (log : Log) (es : List Act)
       ap (λ (a : Answer). with_ended (Expire side which) a (log_told c h)) (sym answered)
       ∙ ap (λ (l : Log). Aborted (direction_to side) x.1.name ∷ l) tells
 
-  -- the spacecraft has executed a request, and opened the report of data that it made, or none
-  pub execution_told : IsLonger c first s es Apply
-      → log_told c (history_after c first (Apply ∷ es))
-      ≡ Executed ∷ with_report log (job_executed c s.on_craft s.memories).0.1.opened
-  execution_told more =
-      let o = (job_executed c s.on_craft s.memories).0.1.opened in
-      let opens : add_opening (opened h) (length h) o ≡ opened (entry c first h Apply ∷ h) =
+  -- a request has left the spacecraft's queue, and the report of data was opened that it made, or
+  -- none
+  pub leaving_told : (how : Leaving)
+      → IsLonger c first s es (Apply how)
+      → log_told c (history_after c first (Apply how ∷ es))
+      ≡ Left how ∷ with_report log (job_left how c s.on_craft s.memories).0.1.opened
+  leaving_told how more =
+      let o = (job_left how c s.on_craft s.memories).0.1.opened in
+      let opens : add_opening (opened h) (length h) o ≡ opened (entry c first h (Apply how) ∷ h) =
       ap (λ (os : List Opening). add_opening os (length h) o) (sym shown.opened)
       ∙ more.shown.opened in
-      ap (λ (l : Log). Executed ∷ l)
-      (opened_told (opened h) (length h) o (front_opens c first h) (log_told c h) opens
+      ap (λ (l : Log). Left how ∷ l)
+      (opened_told (opened h) (length h) o (front_opens c first h how) (log_told c h) opens
       ∙ ap (λ (l : Log). with_report l o) tells)
 
   -- whether it is of a transaction
-  pub execution_opens : IsLonger c first s es Apply
+  pub leaving_opens : (how : Leaving)
+      → IsLonger c first s es (Apply how)
       → (d : Direction) (name : Name)
-      → is_some (find (is_opening_of d name) (front_opens c first h))
-      ≡ is_reported (job_executed c s.on_craft s.memories).0.1.opened d name
-  execution_opens more d name =
-      let o = (job_executed c s.on_craft s.memories).0.1.opened in
-      let opens : add_opening (opened h) (length h) o ≡ opened (entry c first h Apply ∷ h) =
+      → is_some (find (is_opening_of d name) (front_opens c first h how))
+      ≡ is_reported (job_left how c s.on_craft s.memories).0.1.opened d name
+  leaving_opens how more d name =
+      let o = (job_left how c s.on_craft s.memories).0.1.opened in
+      let opens : add_opening (opened h) (length h) o ≡ opened (entry c first h (Apply how) ∷ h) =
       ap (λ (os : List Opening). add_opening os (length h) o) (sym shown.opened)
       ∙ more.shown.opened in
-      opened_of_it (opened h) (length h) o (front_opens c first h) d name opens
+      opened_of_it (opened h) (length h) o (front_opens c first h how) d name opens
 
   -- the outcome of a delivery is what a node answers
   answers : (l : Lane)

@@ -7,7 +7,7 @@ use Rattle.lpt_events.specs.Configs.{IsConfig}
 use Rattle.lpt_events.specs.declared.config.Config.{Config}
 use Rattle.lpt_journal.specs.Replies.{history_after}
 use Rattle.lpt_apart.specs.Ends.{Ends}
-use Rattle.lpt_apart.specs.Facts.{Opened, Asked, Released, Aborted, Executed, Retired, Restarted, Log, is_same, is_of_it, message_awaited, AllDue}
+use Rattle.lpt_apart.specs.Facts.{Opened, Asked, Released, Aborted, Left, Retired, Restarted, Log, is_same, is_of_it, message_awaited, AllDue}
 use Rattle.lpt_apart.specs.Steps.{ends_reached}
 use Rattle.lpt_apart.specs.Whole.{came, last_opened, is_aborted, last_released, WithholdsNothing, EndsWithholdNothing, CameWhole}
 use Rattle.lpt_apart.proofs.Awaiting.{of_it, awaits, awaited_is}
@@ -115,7 +115,7 @@ fate (Retired e i ∷ log) d name m due now live =
       go true before now = absurd cc
       go false before now = before now
 fate (Asked b ∷ log) d name m due now live = fate log d name m due.0 now live
-fate (Executed ∷ log) d name m due now live = fate log d name m due.0 now live
+fate (Left how ∷ log) d name m due now live = fate log d name m due.0 now live
 fate (Restarted side ∷ log) d name m due now live = fate log d name m due.0 now live
 
 -- ---- of two ends

@@ -1,5 +1,6 @@
 -- The log of two ends: what happened of which their promise speaks, and that promise.
 use Rattle.std.specs.Prelude.{◌≡◌, ℕ, ◌<◌, Bool, true, false, ◌&&◌, if◌then◌else◌, List, [], ◌∷◌, ◌++◌, length, take, drop, Option, Some, None, is_some, Contains, ⊤}
+use Rattle.lpt_acts.specs.Acts.{Leaving, Execute}
 use Rattle.lpt_packet.specs.declared.direction.Direction.{Direction}
 use Rattle.lpt_packet.specs.Names.{Name, same_name}
 use Rattle.lpt_events.specs.declared.outcome.Outcome.{Outcome}
@@ -11,14 +12,14 @@ use Rattle.lpt_journal.specs.Jobs.{went_up}
 
 -- A message was opened; ground asked for something by a plain request, whose packet has these
 -- octets; a message was released, of a transaction, or of none if it was a plain request; a
--- reception expired or was broken off; the spacecraft executed its oldest request; a name was
--- retired; a node was restarted.
+-- reception expired or was broken off; the oldest request left the spacecraft's queue, executed,
+-- refused or dropped; a name was retired; a node was restarted.
 pub data Fact : Type 0 where
   Opened : Direction → Name → (message : List ℕ) → Fact
   Asked : (octets : List ℕ) → Fact
   Released : Option (Direction × Name) → (message : List ℕ) → Fact
   Aborted : Direction → Name → Fact
-  Executed : Fact
+  Left : Leaving → Fact
   Retired : Direction → Name → Fact
   Restarted : Side → Fact
 
@@ -48,7 +49,7 @@ awaited_after (Opened e i m) d name before = if is_same e i d name then Some m e
 awaited_after (Asked b) d name before = before
 awaited_after (Released of m) d name before = if is_of_it of d name then None else before
 awaited_after (Aborted e i) d name before = if is_same e i d name then None else before
-awaited_after Executed d name before = before
+awaited_after (Left how) d name before = before
 awaited_after (Retired e i) d name before = if is_same e i d name then None else before
 awaited_after (Restarted side) d name before = before
 
@@ -66,12 +67,13 @@ waiting_after (Opened e i m) before = before
 waiting_after (Asked b) before = before
 waiting_after (Released of m) before = if went_up of then before ++ m ∷ [] else before
 waiting_after (Aborted e i) before = before
-waiting_after Executed before = drop 1 before
+waiting_after (Left how) before = drop 1 before
 waiting_after (Retired e i) before = before
 waiting_after (Restarted Ground) before = before
 waiting_after (Restarted Craft) before = []
 
--- what the spacecraft released and didn't execute since it was last restarted, the oldest first
+-- what the spacecraft released since it was last restarted and hasn't left its queue, the oldest
+-- first
 abbrev pub waiting : Log → List (List ℕ)
 waiting [] = []
 waiting (x ∷ log) = waiting_after x (waiting log)
@@ -82,7 +84,8 @@ executed_after (Opened e i m) waits before = before
 executed_after (Asked b) waits before = before
 executed_after (Released of m) waits before = before
 executed_after (Aborted e i) waits before = before
-executed_after Executed waits before = before ++ take 1 waits
+executed_after (Left Execute) waits before = before ++ take 1 waits
+executed_after (Left how) waits before = before
 executed_after (Retired e i) waits before = before
 executed_after (Restarted side) waits before = before
 
@@ -94,13 +97,13 @@ requests_executed (x ∷ log) = executed_after x (waiting log) (requests_execute
 -- ---- the promise
 
 -- A plain request that is released is one that ground asked. What is released of a transaction is
--- its awaited message, and a reception that expires or is broken off is of an awaited one. What is
--- executed waits.
+-- its awaited message, and a reception that expires or is broken off is of an awaited one. What
+-- leaves the queue waits.
 abbrev pub IsDue : Fact → Log → Type 0
 IsDue (Released None m) log = Contains log (Asked m)
 IsDue (Released (Some t) m) log = message_awaited log t.0 t.1 ≡ Some m
 IsDue (Aborted d name) log = is_some (message_awaited log d name) ≡ true
-IsDue Executed log = 0 < length (waiting log)
+IsDue (Left how) log = 0 < length (waiting log)
 IsDue _ log = ⊤
 
 -- each fact is due after those before it

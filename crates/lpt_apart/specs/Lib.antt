@@ -1,12 +1,9 @@
 pub mod Clocks
-pub mod Drops
 pub mod Ends
 pub mod Facts
 pub mod Moves
 pub mod Plays
-pub mod Reports
 pub mod Steps
 pub mod Told
-pub mod Uploads
 pub mod Whole
 pub mod Worlds

@@ -44,7 +44,7 @@ step_of h (act.Tick side turn) = Some (Tick side turn)
 step_of h (act.Expire side which) = Some (Expire side which)
 step_of h (act.Claim w) = Some (Claim w)
 step_of h (act.Commit w) = Some (Commit w)
-step_of h act.Apply = Some Apply
+step_of h (act.Apply how) = Some (Apply how)
 step_of h (act.Retire d name) = Some (Retire d name)
 step_of h (act.Restart side) = Some (Restart side)
 

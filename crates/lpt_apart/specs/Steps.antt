@@ -10,7 +10,7 @@ use Rattle.lpt_packet.specs.Names.{Name}
 use Rattle.lpt_memory.specs.Memories.{Contents, sizes_of}
 use Rattle.lpt_memory.specs.Readings.{Job}
 use Rattle.lpt_events.specs.Arrivals.{Arrival, NotRead, AnIdle, Foreign, ARequest, AReport, NoPart, APart, AnAbort, arrival_in}
-use Rattle.lpt_acts.specs.Acts.{IsAct, Setting, On, Back, Within}
+use Rattle.lpt_acts.specs.Acts.{IsAct, Leaving, Setting, On, Back, Within}
 use Rattle.lpt_events.specs.Sides.{sender_side, receiver_side, direction_to}
 use Rattle.lpt_events.specs.declared.config.Config.{Config}
 use Rattle.lpt_acts.specs.Acts as act
@@ -23,15 +23,15 @@ use Rattle.lpt_node.specs.declared.accepted.Accepted.{Accepted}
 use Rattle.lpt_node.specs.declared.expired.Expired.{Expired}
 use Rattle.lpt_node.specs.Accepting.{packet_accepted}
 use Rattle.lpt_node.specs.Restarts.{name_retired, node_restarted}
-use Rattle.lpt_node.specs.Jobs.{Execution, refusal_claim, job_claimed, job_committed, refusal_apply, job_executed}
+use Rattle.lpt_node.specs.Jobs.{Execution, refusal_claim, job_claimed, job_committed, refusal_apply}
 use Rattle.lpt_node.specs.Nodes.{NodeData}
 use Rattle.lpt_node.specs.Requests.{refusal_plain, plain_made}
 use Rattle.lpt_node.specs.Sending.{refusal_open, message_opened, refusal_send, part_sent, refusal_finish, sender_closed}
 use Rattle.lpt_node.specs.Times.{refusal_tick, can_set_back, turned_so, refusal_end, which_ends, expired_of}
-use Rattle.lpt_model.specs.State.{as_list, released_of}
+use Rattle.lpt_model.specs.State.{as_list, released_of, job_left}
 use Rattle.lpt_model.specs.Tickets.{ticket_of, with_ticket}
 use Rattle.lpt_apart.specs.Ends.{PutOut, Ends, no_ends, node_at, with_node, put_out, without}
-use Rattle.lpt_apart.specs.Facts.{Opened, Asked, Released, Aborted, Executed, Retired, Restarted, Log, with_abortion}
+use Rattle.lpt_apart.specs.Facts.{Opened, Asked, Released, Aborted, Left, Retired, Restarted, Log, with_abortion}
 
 -- ---- steps
 
@@ -39,8 +39,8 @@ use Rattle.lpt_apart.specs.Facts.{Opened, Asked, Released, Aborted, Executed, Re
 -- puts a plain request out; octets are handed to the node that receives in a direction; the node of
 -- a side sets its clock on, or back, or has other limits from then on, or gives the reception up
 -- that is due, or the open one of a name before its time; a worker of the spacecraft claims a
--- request, or hands its reading in; the spacecraft executes its oldest request; both nodes free a
--- name; the node of a side is restarted.
+-- request, or hands its reading in; the spacecraft executes its oldest request, refuses or drops
+-- it; both nodes free a name; the node of a side is restarted.
 --
 -- Assumed: Memories, names and clocks survive a restart: what a call changes of them is saved,
 -- whole or not at all, before anything that follows from it is sent or handed on; the promise
@@ -55,7 +55,7 @@ pub data Step : Type 0 where
   Expire : Side → Option Name → Step
   Claim : Worker → Step
   Commit : Worker → Step
-  Apply : Step
+  Apply : Leaving → Step
   Retire : Direction → Name → Step
   Restart : Side → Step
 
@@ -118,7 +118,7 @@ CanHappen c e (Tick side turn) = CanTurn turn (node_at e side)
 CanHappen c e (Expire side which) = refusal_end c (node_at e side) which ≡ None
 CanHappen c e (Claim w) = (ticket_of e.tickets w ≡ None) × (refusal_claim e.on_craft ≡ None)
 CanHappen c e (Commit w) = is_some (ticket_of e.tickets w) ≡ true
-CanHappen c e Apply = refusal_apply e.on_craft ≡ None
+CanHappen c e (Apply how) = refusal_apply e.on_craft ≡ None
 CanHappen c e (Retire d name) = IsAct (act.Retire d name) × IsOver e d name
 CanHappen c e (Restart side) = ⊤
 
@@ -187,14 +187,14 @@ abbrev pub with_report : Log → Option (Name × List ℕ) → Log
 with_report log None = log
 with_report log (Some x) = Opened Down x.0 x.1 ∷ log
 
--- the spacecraft has executed a request, and its reports are put out
-abbrev pub executed_on : Ends → (NodeData × Execution) × Contents → Ends
-executed_on e x =
+-- a request has left so, and its reports are put out
+abbrev pub left_on : Leaving → Ends → (NodeData × Execution) × Contents → Ends
+left_on how e x =
     record e {
       on_craft = x.0.0;
       memories = x.1;
       on_the_way = put_out e.on_the_way Down None x.0.1.packets;
-      log = Executed ∷ with_report e.log x.0.1.opened;
+      log = Left how ∷ with_report e.log x.0.1.opened;
     }
 
 -- both nodes have freed a name, and no part of it that was put out before may be handed over any
@@ -229,7 +229,7 @@ after c e (Expire side which) =
     (expired_of side c (node_at e side) (which_ends c (node_at e side) which))
 after c e (Claim w) = claimed_on e w (job_claimed e.on_craft)
 after c e (Commit w) = committed_on c e w (ticket_of e.tickets w)
-after c e Apply = executed_on e (job_executed c e.on_craft e.memories)
+after c e (Apply how) = left_on how e (job_left how c e.on_craft e.memories)
 after c e (Retire d name) = retired_on e d name
 after c e (Restart side) =
     record (with_node e side (node_restarted (node_at e side))) {

@@ -9,7 +9,7 @@ use Rattle.lpt_events.specs.declared.reply.Answer.TheVariants.{Delivered, Expire
 use Rattle.lpt_events.specs.Lanes.{lane_direction}
 use Rattle.lpt_journal.specs.Journal.{SentPacket, Recorded, History}
 use Rattle.lpt_journal.specs.Releases.{released_by}
-use Rattle.lpt_apart.specs.Facts.{Opened, Asked, Released, Aborted, Executed, Retired, Restarted, Log, with_abortion}
+use Rattle.lpt_apart.specs.Facts.{Opened, Asked, Released, Aborted, Left, Retired, Restarted, Log, with_abortion}
 
 -- the log with these openings
 abbrev pub with_openings : List Opening → Log → Log
@@ -35,7 +35,7 @@ with_asked (p ∷ ps) log = with_asked ps (Asked p.octets ∷ log)
 -- the log with what an event, which puts these packets, is besides
 abbrev pub with_event : Act → List SentPacket → Log → Log
 with_event (Plain source flags service subtype body) puts log = with_asked puts log
-with_event Apply puts log = Executed ∷ log
+with_event (Apply how) puts log = Left how ∷ log
 with_event (Retire d name) puts log = Retired d name ∷ log
 with_event (Restart side) puts log = Restarted side ∷ log
 with_event _ puts log = log

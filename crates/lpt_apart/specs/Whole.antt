@@ -15,7 +15,7 @@ use Rattle.lpt_acts.specs.Acts.{Act}
 use Rattle.lpt_events.specs.declared.outcome.Outcome.{Outcome}
 use Rattle.lpt_events.specs.declared.reply.Answer.TheVariants.{Delivered}
 use Rattle.lpt_node.specs.Accepting.{packet_accepted}
-use Rattle.lpt_node.specs.Jobs.{job_executed}
+use Rattle.lpt_model.specs.State.{job_left}
 use Rattle.lpt_journal.specs.Legal.{Legal}
 use Rattle.lpt_journal.specs.Replies.{history_after}
 use Rattle.lpt_journal.specs.Whole as journal
@@ -47,8 +47,8 @@ came_after c e (Accept i b) d name k before =
     (packet_accepted (receiver_side i) c (node_at e (receiver_side i)) (arrival_in c i b)).1.outcome
     d name
     k before
-came_after c e Apply d name k before =
-    if is_reported (job_executed c e.on_craft e.memories).0.1.opened d name then false else before
+came_after c e (Apply how) d name k before =
+    if is_reported (job_left how c e.on_craft e.memories).0.1.opened d name then false else before
 came_after c e (Restart side) d name k before = not (same_side side (receiver_side d)) && before
 came_after c e _ d name k before = before
 

@@ -5,7 +5,7 @@ use Rattle.lpt_memory.specs.Memories.{Contents}
 use Rattle.lpt_memory.specs.Readings.{Job, Source}
 use Rattle.lpt_events.specs.Configs.{IsConfig}
 use Rattle.lpt_events.specs.declared.config.Config.{Config}
-use Rattle.lpt_acts.specs.Acts.{Act, act_of, Back, Within}
+use Rattle.lpt_acts.specs.Acts.{Act, act_of, Back, Within, Refuse, Drop}
 use Rattle.lpt_events.specs.declared.event.Event.{Event}
 use Rattle.lpt_events.specs.declared.worker.Worker.{Worker}
 use Rattle.lpt_jobs.specs.Jobs.{head_of, is_claimed, Ready}
@@ -19,7 +19,7 @@ use Rattle.lpt_refinement.specs.Shows.{Shows}
 use Rattle.lpt_refinement.specs.Views.{views}
 use Rattle.lpt_apart.specs.Ends.{Ends}
 use Rattle.lpt_apart.specs.Facts.{AllDue, requests_executed, waiting}
-use Rattle.lpt_apart.specs.Steps.{Step, Expire, Tick, ends_reached, CanRun}
+use Rattle.lpt_apart.specs.Steps.{Step, Apply, Expire, Tick, ends_reached, CanRun}
 use Rattle.lpt_apart.specs.Told.{log_told}
 
 -- What the spacecraft's node asks for besides: a job that a worker has was claimed and not handed
@@ -41,11 +41,14 @@ abbrev pub AreOfEvents : List Act → Type 0
 AreOfEvents [] = ⊤
 AreOfEvents (a ∷ acts) = AreOfEvents acts × IsOfAnEvent a
 
--- a step sets no clock back, sets no limits, and ends no reception before its time
+-- a step sets no clock back, sets no limits, ends no reception before its time, and refuses or
+-- drops no request
 abbrev pub IsEventStep : Step → Type 0
 IsEventStep (Tick side (Back n)) = ⊥
 IsEventStep (Tick side (Within l)) = ⊥
 IsEventStep (Expire side (Some name)) = ⊥
+IsEventStep (Apply (Refuse code)) = ⊥
+IsEventStep (Apply Drop) = ⊥
 IsEventStep x = ⊤
 
 -- no step does

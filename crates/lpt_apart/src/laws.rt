@@ -1,11 +1,8 @@
 //! What is proved of two ends apart: functions with empty bodies.
 
 ghost use Rattle.lpt_apart.specs.Clocks.{EndsWithClocksKeepThePromise};
-ghost use Rattle.lpt_apart.specs.Drops.{EndsThatDropServe};
 ghost use Rattle.lpt_apart.specs.Moves.{EndsApartAreAWorld, EndsApartKeepThePromise};
 ghost use Rattle.lpt_apart.specs.Plays.{WorldsAreEnds, StepsAreMoves};
-ghost use Rattle.lpt_apart.specs.Reports.{DroppedIsNotReported};
-ghost use Rattle.lpt_apart.specs.Uploads.{EndsThatDropWithholdNoRequest};
 ghost use Rattle.lpt_apart.specs.Whole.{EndsApartWithholdNothing, EndsWithClocksWithholdNothing, EndsWithholdNothing, MovesBringTheSame, WorldsBringTheSame};
 ghost use Rattle.lpt_apart.specs.Worlds.{EndsAreAWorld, EndsKeepThePromise};
 
@@ -82,29 +79,4 @@ pub fn worlds_bring_the_same()
 /// The parts that came by steps come by the moves that these are.
 pub fn moves_bring_the_same()
     ensures { MovesBringTheSame }
-{}
-
-/// Take two ends apart that read a request at once, and drop some of them: before they are read, if
-/// a message of no octets is read in their place, or once they stand at the front and were read,
-/// when they may also be refused. Each request that was released is one that ground asked, or the
-/// message last opened under its name. The memories are their first content, changed by the
-/// executed requests in order of release, and what was dropped or refused isn't among these.
-pub fn ends_that_drop_serve()
-    ensures { EndsThatDropServe }
-{}
-
-/// Ends that drop requests withhold no request that came whole. Take what was last opened upwards
-/// under a name. If each part of it was handed over since then, and since the spacecraft was last
-/// restarted, while there was room, it was released since, unless its reception expired or was
-/// broken off.
-pub fn ends_that_drop_withhold_no_request()
-    ensures { EndsThatDropWithholdNoRequest }
-{}
-
-/// Whatever ends that drop requests did before, nothing is put out and nothing is opened of a
-/// request that was dropped: neither when it is dropped nor when its place is passed over. What is
-/// put out if a request is executed are the reports of this request, as it was read, and it is the
-/// newest of those that were executed; if it is refused, those of its failure.
-pub fn dropped_is_not_reported()
-    ensures { DroppedIsNotReported }
 {}

@@ -12,7 +12,7 @@ use Rattle.lpt_memory.specs.Meanings.{body_meaning, meaning}
 use Rattle.lpt_memory.specs.Requests.{front_load_area, front_head, request_in}
 use Rattle.lpt_ledger.specs.LeastFree.{first_of_numbers}
 use Rattle.lpt_events.specs.Arrivals.{AnAbort, arrival, arrival_in}
-use Rattle.lpt_acts.specs.Acts.{Act, Open, Send, Plain, Finish, Lose, Take, Deliver, Claim, Commit, Apply, Retire, Restart}
+use Rattle.lpt_acts.specs.Acts.{Execute, Act, Open, Send, Plain, Finish, Lose, Take, Deliver, Claim, Commit, Apply, Retire, Restart}
 use Rattle.lpt_events.specs.declared.lane.Lane.TheVariants.{S1}
 use Rattle.lpt_events.specs.declared.side.Side.TheVariants.{Craft}
 use Rattle.lpt_events.specs.declared.worker.Worker.TheVariants.{W1}
@@ -39,7 +39,7 @@ use Rattle.lpt_apart_examples.proofs.Swapped.{swapped, swapped_came}
 
 abbrev journal : List Act
 journal =
-    Plain 1 0 6 2 load ∷ Take S1 0 ∷ Deliver S1 ∷ Claim W1 ∷ Commit W1 ∷ Apply
+    Plain 1 0 6 2 load ∷ Take S1 0 ∷ Deliver S1 ∷ Claim W1 ∷ Commit W1 ∷ Apply Execute
     ∷ Take S1 0 ∷ Deliver S1
     ∷ Open Up (own 7) m20 ∷ Send Up (own 7) 1 ∷ Send Up (own 7) 2 ∷ Send Up (own 7) 3
     ∷ Take S1 3 ∷ Deliver S1 ∷ Take S1 1 ∷ Deliver S1 ∷ Take S1 1 ∷ Deliver S1

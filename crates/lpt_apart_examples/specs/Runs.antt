@@ -3,7 +3,8 @@ use Rattle.std.specs.Prelude.{ℕ, List, [], ◌∷◌, Some, None}
 use Rattle.lpt_packet.specs.declared.direction.Direction.TheVariants.{Up, Down}
 use Rattle.lpt_events.specs.declared.side.Side.TheVariants.{Craft}
 use Rattle.lpt_events.specs.declared.worker.Worker.TheVariants.{W1}
-use Rattle.lpt_apart.specs.Facts.{Opened, Asked, Released, Executed, Retired, Restarted, Log}
+use Rattle.lpt_acts.specs.Acts.{Execute}
+use Rattle.lpt_apart.specs.Facts.{Opened, Asked, Released, Left, Retired, Restarted, Log}
 use Rattle.lpt_apart.specs.Moves.{Move, Do, Free}
 use Rattle.lpt_apart.specs.Steps.{Open, Send, Plain, Accept, Claim, Commit, Apply, Retire, Restart}
 use Rattle.lpt_journal_examples.specs.Passes.{own, m20, m9, load, load_packet}
@@ -49,7 +50,7 @@ forged_report =
 abbrev pub worked_moves : List Move
 worked_moves =
     Do (Plain 1 0 6 2 load) ∷ Do (Accept Up load_packet)
-    ∷ Do (Claim W1) ∷ Do (Commit W1) ∷ Do Apply
+    ∷ Do (Claim W1) ∷ Do (Commit W1) ∷ Do (Apply Execute)
     ∷ Do (Accept Up load_packet)
     ∷ Do (Open Up (own 7) m20)
     ∷ Do (Send Up (own 7) 1) ∷ Do (Send Up (own 7) 2) ∷ Do (Send Up (own 7) 3)
@@ -64,6 +65,6 @@ worked_moves =
 -- its log, the oldest fact first
 abbrev pub worked_log : Log
 worked_log =
-    Asked load_packet ∷ Released None load_packet ∷ Executed ∷ Released None load_packet
+    Asked load_packet ∷ Released None load_packet ∷ Left Execute ∷ Released None load_packet
     ∷ Opened Up (own 7) m20 ∷ Released (Some (Up, own 7)) m20 ∷ Retired Up (own 7)
     ∷ Opened Up (own 7) m9 ∷ Restarted Craft ∷ Released (Some (Up, own 7)) m9 ∷ []

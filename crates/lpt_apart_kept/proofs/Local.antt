@@ -89,7 +89,7 @@ module _ (c : Config) where
   is_of_ground p (Do (Expire Craft which)) is = absurd cc
   is_of_ground p (Do (Claim w)) is = absurd cc
   is_of_ground p (Do (Commit w)) is = absurd cc
-  is_of_ground p (Do Apply) is = absurd cc
+  is_of_ground p (Do (Apply how)) is = absurd cc
   is_of_ground p (Do (Retire Up name)) is = record { next = refl; leaves = refl }
   is_of_ground p (Do (Retire Down name)) is = absurd cc
   is_of_ground p (Do (Restart Ground)) is = record { next = refl; leaves = refl }
@@ -118,7 +118,7 @@ module _ (c : Config) where
         (ticket_of p.ends.tickets w) refl;
     leaves = hands_in_leaves p.ends w (ticket_of p.ends.tickets w);
   }
-  is_of_craft p (Do Apply) is = record { next = refl; leaves = refl }
+  is_of_craft p (Do (Apply how)) is = record { next = refl; leaves = refl }
   is_of_craft p (Do (Retire Up name)) is = absurd cc
   is_of_craft p (Do (Retire Down name)) is = record { next = refl; leaves = refl }
   is_of_craft p (Do (Restart Ground)) is = absurd cc

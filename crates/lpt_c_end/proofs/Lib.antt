@@ -2,6 +2,7 @@ mod AnyOrder
 pub mod AsAddress
 pub mod AsBox
 pub mod ClosedLemmas
+pub mod DropLemmas
 pub mod InOrder
 pub mod MemoryLemmas
 mod NextLemmas

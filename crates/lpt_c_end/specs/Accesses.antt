@@ -12,7 +12,7 @@ use Rattle.lpt_node.specs.Jobs.{FrontHolds, job_executed, executed_given, front_
 use Rattle.lpt_c_end.specs.Changes.{IsFixed}
 use Rattle.lpt_c_end.specs.Codes.{empty, node_code, read_length_fault}
 use Rattle.lpt_c_end.specs.Copies.{Text}
-use Rattle.lpt_c_end.specs.Kept.{elsewhere_refusal, text_or_nothing}
+use Rattle.lpt_c_end.specs.Kept.{elsewhere_refusal, memories_refusal, text_or_nothing}
 use Rattle.lpt_c_end.specs.Refusals.{sending_refusal}
 use Rattle.lpt_c_end.specs.Walks.{none_refusal}
 use Rattle.lpt_c_end.specs.Words.{applied_words}
@@ -39,6 +39,10 @@ first_read e = front_reading (head_of e.node.at.jobs.jobs)
 -- why the oldest request can't be executed
 abbrev pub unready : End → Option ℕ
 unready e = node_code (refusal_apply e.node.at)
+
+-- why it isn't dropped
+abbrev pub drop_read_refusal : End → Option ℕ
+drop_read_refusal e = memories_refusal e.memories (unready e)
 
 -- its access of a number
 abbrev pub access_of : (number : ℕ) → End → Option LptAccess

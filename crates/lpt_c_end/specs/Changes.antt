@@ -192,13 +192,9 @@ read_as_by message c (Some sizes) d = read_as message c sizes d
 abbrev pub IsRead : End → End → Type 0
 IsRead e = Becomes (read_by e.config (sizes_in e.memories) e.node.at) e
 
--- a message of no octets was read in place of the oldest job that waited: it means nothing
+-- the oldest job was let go
 abbrev pub IsDropped : End → End → Type 0
-IsDropped e = Becomes (read_as_by [] e.config (sizes_in e.memories) e.node.at) e
-
--- the oldest job, which had been read, was let go
-abbrev pub IsReadDropped : End → End → Type 0
-IsReadDropped e = Becomes (record e.node.at { jobs = without_front e.node.at.jobs }) e
+IsDropped e = Becomes (record e.node.at { jobs = without_front e.node.at.jobs }) e
 
 -- the oldest job is executed, if the end has the memories: the node and its answer, and the
 -- memories

@@ -87,6 +87,10 @@ elsewhere = 119
 abbrev pub read_length_fault : ℕ
 read_length_fault = 120
 
+-- the oldest request of all was read already
+abbrev pub already_read : ℕ
+already_read = 126
+
 -- ---- answers
 
 -- the answer of a call that takes no memory, if this refuses it

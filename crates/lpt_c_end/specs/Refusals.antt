@@ -5,14 +5,14 @@ use Rattle.lpt_events.specs.Counts.{greatest_clock}
 use Rattle.lpt_events.specs.declared.config_fault.ConfigFault.{ConfigFault}
 use Rattle.lpt_events.specs.declared.side.Side.{Side}
 use Rattle.lpt_events.specs.declared.side.Side.TheVariants.{Ground, Craft}
-use Rattle.lpt_jobs.specs.Jobs.{jobs_numbered}
+use Rattle.lpt_jobs.specs.Jobs.{claimed_in, jobs_numbered}
 use Rattle.lpt_packet.specs.Names.{Name}
 use Rattle.lpt_node.specs.Restarts.{may_retire}
 use Rattle.lpt_node.specs.Requests.{refusal_plain}
 use Rattle.lpt_node.specs.Sending.{refusal_open, refusal_send, refusal_finish}
 use Rattle.lpt_node.specs.Times.{can_set_back, refusal_tick, refusal_expire, refusal_give_up}
 use Rattle.lpt_node.specs.Jobs.{refusal_claim, refusal_apply}
-use Rattle.lpt_c_end.specs.Codes.{node_code, clock_end, clock_start, config_code, still_open, bad_memories, range, empty, no_number, nothing, unsent}
+use Rattle.lpt_c_end.specs.Codes.{already_read, node_code, clock_end, clock_start, config_code, still_open, bad_memories, range, empty, no_number, nothing, unsent}
 use Rattle.lpt_c_end.specs.Contents.{can_be}
 use Rattle.lpt_c_end.specs.Kept.{here_refusal, memories_refusal}
 use Rattle.lpt_c_end.specs.Words.{side_from, direction_from, config_from}
@@ -127,6 +127,11 @@ sending_refusal None packets = if length packets == 0 then None else Some unsent
 -- no job is read
 abbrev pub read_refusal : End → Option ℕ
 read_refusal e = memories_refusal e.memories (node_code (refusal_claim e.node.at))
+
+-- the oldest job of all isn't dropped unread
+abbrev pub drop_refusal : End → Option ℕ
+drop_refusal e =
+    if claimed_in e.node.at.jobs.jobs == 0 then read_refusal e else Some already_read
 
 -- no job is executed
 abbrev pub execute_refusal : End → Option ℕ

@@ -7,16 +7,21 @@ use Rattle.lpt_pus.specs.declared.failure_code.FailureCode.{FailureCode}
 use Rattle.lpt_c_end.specs.Accesses.{unready}
 use Rattle.lpt_c_end.specs.Changes.{IsFixed}
 use Rattle.lpt_c_end.specs.Codes.{range}
+use Rattle.lpt_c_end.specs.Kept.{memories_refusal}
 use Rattle.lpt_c_end.specs.Refusals.{sending_refusal}
 use Rattle.lpt_c_end.specs.Words.{applied_word}
 use Rattle.lpt_c_end.specs.declared.end.End.{End}
 use Rattle.lpt_c_end.specs.declared.words.LptApplied.{LptApplied}
 
+-- why it isn't refused, whatever the failure code
+abbrev pub refuse_as_refusal : End → Option ℕ
+refuse_as_refusal e =
+    memories_refusal e.memories (sending_refusal (unready e) e.outbox.items)
+
 -- why it isn't refused with the failure code of this number, one of 1 to 8
 abbrev pub refuse_refusal : (number : ℕ) → End → Option ℕ
 refuse_refusal number e =
-    if nat_le 1 number && nat_le number 8 then sending_refusal (unready e) e.outbox.items
-    else Some range
+    if nat_le 1 number && nat_le number 8 then refuse_as_refusal e else Some range
 
 -- the oldest request was refused with this failure code, and its reports are to be sent; no memory
 -- has changed

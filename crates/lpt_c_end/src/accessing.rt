@@ -2,9 +2,9 @@
 //! and its execution by the octets that it reads.
 
 ghost use Rattle.std.specs.Prelude.{◌≡◌, Some};
-ghost use Rattle.lpt_c_end.specs.Accesses.{access_refusal, access_word, given_refusal, unready, written_by, IsAccess, IsAppliedGiven, IsExecutedGiven};
+ghost use Rattle.lpt_c_end.specs.Accesses.{access_refusal, access_word, drop_read_refusal, given_refusal, unready, written_by, IsAccess, IsAppliedGiven, IsExecutedGiven};
 ghost use Rattle.lpt_c_end.specs.Calls.{IfBoth, IfHeld};
-ghost use Rattle.lpt_c_end.specs.Changes.{IsReadDropped, IsSame};
+ghost use Rattle.lpt_c_end.specs.Changes.{IsDropped, IsSame};
 ghost use Rattle.lpt_c_end.specs.Codes.{answer, IsAnswer};
 ghost use Rattle.lpt_c_end.specs.Copies.{code_for, left_by, needed_by};
 ghost use Rattle.lpt_c_end.specs.Refusals.{refusal_by};
@@ -115,8 +115,8 @@ pub fn lpt_end_execute_given(
 /// It answers 0; 106 if the handle is empty; 51 if there is no request, as always on ground; 52 if
 /// the oldest wasn't read. Unless it answers 0, nothing has changed. It takes no memory.
 pub fn lpt_end_drop_read(alloc: Global, end: &mut LptEnd) -> u32
-    ensures code { result ≡ answer (refusal_by unready end.old.held.value) }
-    ensures done { result ≡ 0 → IfBoth IsReadDropped end.old.held.value end.new.held.value }
+    ensures code { result ≡ answer (refusal_by drop_read_refusal end.old.held.value) }
+    ensures done { result ≡ 0 → IfBoth IsDropped end.old.held.value end.new.held.value }
     ensures refused { ¬ (result ≡ 0) → IfBoth IsSame end.old.held.value end.new.held.value }
 {
     let Some(mut held) = take(alloc, end) else {
@@ -130,10 +130,13 @@ pub fn lpt_end_drop_read(alloc: Global, end: &mut LptEnd) -> u32
 impl End {
     // Drops the oldest request, which has been read.
     fn drop_read(&mut self) -> u32
-        ensures code { result ≡ answer (unready self.old) }
-        ensures done { result ≡ 0 → IsReadDropped self.old self.new }
+        ensures code { result ≡ answer (drop_read_refusal self.old) }
+        ensures done { result ≡ 0 → IsDropped self.old self.new }
         ensures refused { ¬ (result ≡ 0) → IsSame self.old self.new }
     {
+        if matches!(self.memories, Kept::Nowhere) {
+            return NO_JOB;
+        }
         match self.node.drop_front() {
             Ok(()) => DONE,
             Err(fault) => u32::from(fault.code()),

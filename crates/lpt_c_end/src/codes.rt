@@ -36,6 +36,9 @@ pub(crate) const NO_NUMBER: u32 = 108;
 // There is nothing to copy, or to let go.
 pub(crate) const NOTHING: u32 = 109;
 
+// The oldest request of all was read already.
+pub(crate) const ALREADY_READ: u32 = 126;
+
 // Packets are to be sent first.
 pub(crate) const UNSENT: u32 = 110;
 

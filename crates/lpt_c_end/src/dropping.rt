@@ -7,9 +7,9 @@ ghost use Rattle.lpt_pus.specs.Commands.{command_in};
 ghost use Rattle.lpt_c_end.specs.Calls.{IfBoth, IfHeld, IsAsked, asked_refusal};
 ghost use Rattle.lpt_c_end.specs.Changes.{IsDropped, IsSame};
 ghost use Rattle.lpt_c_end.specs.Codes.{answer, IsAnswer};
-ghost use Rattle.lpt_c_end.specs.Refusals.{read_refusal, refusal_by};
+ghost use Rattle.lpt_c_end.specs.Refusals.{drop_refusal, refusal_by};
 
-use crate::codes::{DONE, EMPTY, NO_JOB, NOTHING};
+use crate::codes::{ALREADY_READ, DONE, EMPTY, NO_JOB, NOTHING};
 use crate::end::End;
 use crate::handle::{LptEnd, put, take};
 use lpt_packet::laws::seen_is_read;
@@ -37,26 +37,44 @@ pub fn lpt_end_asked(alloc: Global, end: &mut LptEnd, service: &mut u8, subtype:
     code
 }
 
-/// Drops the oldest request that was released and not read yet, in place of `lpt_end_read`: it is
-/// never executed. What stands in its place asks nothing, and `lpt_end_execute` discards it
-/// in its turn, with no report.
+/// Drops the oldest request of all, which wasn't read yet, in place of `lpt_end_read`: it is never
+/// executed, and nothing is reported of it.
 ///
-/// It answers 0; 106 if the handle is empty; 51 if there is none, as always on ground; 58 when out
-/// of memory. Unless it answers 0, nothing has changed.
+/// It answers 0; 106 if the handle is empty; 126 if the oldest was read; 51 if there is none, as
+/// always on ground; 58 when out of memory. Unless it answers 0, nothing has changed.
 pub fn lpt_end_drop(alloc: Global, end: &mut LptEnd) -> u32
-    ensures code { IsAnswer (refusal_by read_refusal end.old.held.value) result }
+    ensures code { IsAnswer (refusal_by drop_refusal end.old.held.value) result }
     ensures done { result ≡ 0 → IfBoth IsDropped end.old.held.value end.new.held.value }
     ensures refused { ¬ (result ≡ 0) → IfBoth IsSame end.old.held.value end.new.held.value }
 {
     let Some(mut held) = take(alloc, end) else {
         return EMPTY;
     };
-    let code = held.hand_in(alloc, Octets::from_vec(Vec::new(alloc)));
+    let code = held.drop_unread(alloc);
     put(end, held);
     code
 }
 
 impl End {
+    // Drops the oldest request of all, which wasn't read yet.
+    fn drop_unread(&mut self, alloc: Global) -> u32
+        ensures code { IsAnswer (drop_refusal self.old) result }
+        ensures done { result ≡ 0 → IsDropped self.old self.new }
+        ensures refused { ¬ (result ≡ 0) → IsSame self.old self.new }
+    {
+        if self.node.jobs_queued() != self.node.waiting() {
+            return ALREADY_READ;
+        }
+        let code = self.hand_in(alloc, Octets::from_vec(Vec::new(alloc)));
+        if code != DONE {
+            return code;
+        }
+        let Ok(()) = self.node.drop_front() else {
+            unreachable!()
+        };
+        DONE
+    }
+
     // Says which types the oldest request has that wasn't read.
     fn tell_asked(&self, service: &mut u8, subtype: &mut u8) -> u32
         ensures code { result ≡ answer (asked_refusal self.now) }

@@ -5,14 +5,14 @@ ghost use Rattle.std.specs.Prelude.{◌≡◌};
 ghost use Rattle.lpt_c_end.specs.Calls.{IfBoth};
 ghost use Rattle.lpt_c_end.specs.Changes.{IsSame};
 ghost use Rattle.lpt_c_end.specs.Codes.{IsAnswer};
-ghost use Rattle.lpt_c_end.specs.Accesses.{unready};
-ghost use Rattle.lpt_c_end.specs.Refusals.{refusal_by, sending_refusal};
-ghost use Rattle.lpt_c_end.specs.Refusing.{IsRefused, IsRefusedAs, refuse_refusal, refused_word};
+ghost use Rattle.lpt_c_end.specs.Refusals.{refusal_by};
+ghost use Rattle.lpt_c_end.specs.Refusing.{IsRefused, IsRefusedAs, refuse_as_refusal, refuse_refusal, refused_word};
 ghost use Rattle.lpt_pus.specs.Codes.{number_of};
 
-use crate::codes::{DONE, EMPTY, MEMORY, RANGE, UNSENT};
+use crate::codes::{DONE, EMPTY, MEMORY, NO_JOB, RANGE, UNSENT};
 use crate::end::End;
 use crate::handle::{LptEnd, put, take};
+use crate::kept::Kept;
 use crate::words::{LptApplied, applied_words_of};
 use lpt_node::{Ask, Executed};
 use lpt_pus::FailureCode;
@@ -59,12 +59,15 @@ impl End {
     // Refuses the oldest request with this failure code, and says so.
     #[tactic(auto, using(crate::proofs::RefusingLemmas::refused_is_told))]
     fn refuse_as(&mut self, code: FailureCode, applied: &mut LptApplied) -> u32
-        ensures code { IsAnswer (sending_refusal (unready self.old) self.old.outbox.items) result }
+        ensures code { IsAnswer (refuse_as_refusal self.old) result }
         ensures done { result ≡ 0 → IsRefusedAs code self.old self.new }
         ensures told { result ≡ 0 → applied.new ≡ refused_word (number_of code) }
         ensures refused { ¬ (result ≡ 0) → IsSame self.old self.new }
         ensures untold { ¬ (result ≡ 0) → applied.new ≡ applied.old }
     {
+        if matches!(self.memories, Kept::Nowhere) {
+            return NO_JOB;
+        }
         if let Some(fault) = self.node.refusal(&Ask::Apply) {
             return u32::from(fault.code());
         }

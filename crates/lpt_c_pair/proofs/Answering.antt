@@ -1,9 +1,10 @@
 -- No refusal has the number 0.
 use Rattle.std.proofs.Common.{◌≡◌, ap, sym, refl, ℕ, ◌+◌, nat_lt, nat_le, ◌==◌, ◌&&◌, Bool, true, false, if◌then◌else◌, List, length, Option, Some, None, arith}
-use Rattle.lpt_c_end.specs.Accesses.{first_read, given_refusal, length_refusal, unready}
-use Rattle.lpt_c_end.specs.Codes.{node_code, clock_end, clock_start, IsAnswer, answer, range, nothing}
-use Rattle.lpt_c_end.specs.Refusals.{open_refusal, part_refusal, plain_refusal, finish_refusal, sent_refusal, expire_refusal, give_up_refusal, tick_refusal, ticks_refusal, rebase_refusal, read_refusal, execute_refusal, ground_refusal, sending_refusal}
-use Rattle.lpt_c_end.specs.Refusing.{refuse_refusal}
+use Rattle.lpt_c_end.specs.Accesses.{drop_read_refusal, first_read, given_refusal, length_refusal, unready}
+use Rattle.lpt_c_end.specs.Codes.{already_read, node_code, clock_end, clock_start, IsAnswer, answer, range, nothing}
+use Rattle.lpt_c_end.specs.Refusals.{open_refusal, part_refusal, plain_refusal, finish_refusal, sent_refusal, expire_refusal, give_up_refusal, tick_refusal, ticks_refusal, rebase_refusal, read_refusal, drop_refusal, execute_refusal, ground_refusal, sending_refusal}
+use Rattle.lpt_jobs.specs.Jobs.{claimed_in}
+use Rattle.lpt_c_end.specs.Refusing.{refuse_as_refusal, refuse_refusal}
 use Rattle.lpt_c_end.specs.Kept.{elsewhere_refusal, here_refusal, memories_refusal}
 use Rattle.lpt_c_end.specs.declared.kept.Kept.{Kept}
 use Rattle.lpt_c_end.specs.declared.kept.Kept.TheVariants.{Nowhere, Here, Elsewhere}
@@ -61,6 +62,12 @@ of_lack false n never e = of_number n never e
 of_range : (b : Bool) (r : Option ℕ) → IsNoZero r → IsNoZero (if b then r else Some range)
 of_range true r rest = rest
 of_range false r rest = of_number range (λ e. omega arith)
+
+of_unread : (b : Bool) (r : Option ℕ)
+    → IsNoZero r
+    → IsNoZero (if b then r else Some already_read)
+of_unread true r rest = rest
+of_unread false r rest = of_number already_read (λ e. omega arith)
 
 of_side : (s : Side) (r : Option ℕ) → IsNoZero r → IsNoZero (ground_refusal s r)
 of_side Ground r rest = rest
@@ -138,6 +145,10 @@ zero_is_done e = record {
       (of_lack (can_set_back ticks e.node.at) clock_start (λ z. omega arith));
   read = answered (read_refusal e) (of_memories e.memories (node_code (refusal_claim e.node.at))
       (of_node (refusal_claim e.node.at)));
+  dropped = answered (drop_refusal e)
+      (of_unread (claimed_in e.node.at.jobs.jobs == 0) (read_refusal e)
+      (of_memories e.memories (node_code (refusal_claim e.node.at))
+      (of_node (refusal_claim e.node.at))));
   executed =
       answered (execute_refusal e)
       (of_here e.memories (sending_refusal (node_code (refusal_apply e.node.at)) e.outbox.items)
@@ -149,9 +160,11 @@ zero_is_done e = record {
       (of_elsewhere e.memories (sending_refusal read e.outbox.items)
       (of_sending read e.outbox.items (of_length (unready e) (first_read e) octets
       (of_node (refusal_apply e.node.at)))));
-  read_dropped = answered_by (unready e) (of_node (refusal_apply e.node.at));
+  read_dropped = answered_by (drop_read_refusal e)
+      (of_memories e.memories (unready e) (of_node (refusal_apply e.node.at)));
   refused = λ number. answered (refuse_refusal number e)
       (of_range (nat_le 1 number && nat_le number 8)
-      (sending_refusal (unready e) e.outbox.items)
-      (of_sending (unready e) e.outbox.items (of_node (refusal_apply e.node.at))));
+      (refuse_as_refusal e)
+      (of_memories e.memories (sending_refusal (unready e) e.outbox.items)
+      (of_sending (unready e) e.outbox.items (of_node (refusal_apply e.node.at)))));
 }

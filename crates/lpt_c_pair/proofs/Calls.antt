@@ -1,15 +1,18 @@
 -- Each call of C is a move of two ends apart.
-use Rattle.std.proofs.Common.{◌≡◌, ◌∙◌, ap, sym, subst, refl, ℕ, nat_lt, List, [], ◌∷◌, ◌++◌, length, Option, Some, None}
+use Rattle.std.proofs.Common.{◌≡◌, ◌∙◌, ap, sym, subst, refl, ℕ, ◌==◌, nat_le, nat_lt, Bool, true, false, ◌&&◌, if◌then◌else◌, List, [], ◌∷◌, ◌++◌, length, Option, Some, None}
+use Rattle.lpt_packet.proofs.Readings.{true_eq}
+use Rattle.lpt_c_end.proofs.DropLemmas.{read_first}
 use Rattle.lpt_apart.specs.Clocks.{after_all, CanAll}
 use Rattle.lpt_apart.specs.Ends.{Ends, put_out}
 use Rattle.lpt_apart.specs.Moves.{Pair, CanMove, freed_by, retired_by}
 use Rattle.lpt_c_end.specs.Accesses.{first_read, length_refusal, unready}
 use Rattle.lpt_c_end.specs.Changes.{IsFixed, delivery, expiry, giving_up, read_by}
-use Rattle.lpt_c_end.specs.Codes.{elsewhere, node_code, range, no_job}
+use Rattle.lpt_c_end.specs.Codes.{already_read, elsewhere, node_code, range, no_job}
 use Rattle.lpt_c_end.specs.Contents.{memories_of}
 use Rattle.lpt_c_end.specs.Keeping.{IsResumedWith}
 use Rattle.lpt_c_end.specs.Kept.{elsewhere_refusal, here_refusal, memories_refusal, sizes_in}
-use Rattle.lpt_c_end.specs.Refusals.{ground_refusal, sending_refusal}
+use Rattle.lpt_c_end.specs.Refusals.{ground_refusal, read_refusal, sending_refusal}
+use Rattle.lpt_c_end.specs.Refusing.{refuse_as_refusal}
 use Rattle.lpt_c_end.specs.Sizes.{kept_as}
 use Rattle.lpt_c_end.specs.Words.{direction_from as direction_by}
 use Rattle.lpt_c_end.specs.declared.end.End.{End}
@@ -17,8 +20,8 @@ use Rattle.lpt_c_end.specs.declared.kept.Kept.{Kept}
 use Rattle.lpt_c_end.specs.declared.kept.Kept.TheVariants.{Nowhere, Here, Elsewhere}
 use Rattle.lpt_c_end.proofs.ReadyLemmas.{front_ready}
 use Rattle.lpt_c_pair.specs.Outboxes.{AllOnTheWay, NoneWaits}
-use Rattle.lpt_c_pair.specs.Pairs.{AreEndsOf, IsEndOf, CallPlace, InEnd, WithProgram, kept_in, Call, Open, Part, Plain, Finish, LetGo, Packet, Expire, GiveUp, Tick, Rebase, Read, Execute, ExecuteGiven, Retire, RetireFree, Restart, Resume, ResumeSized, Fails, freeing, moves, IsMoveOfGround, IsMoveOfCraft, CallsAreMoves}
-use Rattle.lpt_c_pair.proofs.Clockless.{refuses_open, refuses_send, sends, refuses_plain, asks, takes, refuses_expire, expires, gives_up, reads, executes, executes_over}
+use Rattle.lpt_c_pair.specs.Pairs.{AreEndsOf, IsEndOf, CallPlace, InEnd, WithProgram, kept_in, Call, Open, Part, Plain, Finish, LetGo, Packet, Expire, GiveUp, Tick, Rebase, Read, Execute, ExecuteGiven, Drop, DropRead, Refuse, Retire, RetireFree, Restart, Resume, ResumeSized, Fails, freeing, moves, IsMoveOfGround, IsMoveOfCraft, CallsAreMoves}
+use Rattle.lpt_c_pair.proofs.Clockless.{refuses_open, refuses_send, sends, refuses_plain, asks, takes, refuses_expire, expires, gives_up, reads, executes, executes_over, refuses_front}
 use Rattle.lpt_c_pair.proofs.GivenLemmas.{executed_sizes, not_short}
 use Rattle.lpt_c_pair.proofs.Resuming.{resumed_node}
 use Rattle.lpt_apart_kept.proofs.GroundReports.{none_of_delivery, none_of_expiry}
@@ -32,7 +35,7 @@ use Rattle.lpt_events.specs.declared.config.Config.{Config}
 use Rattle.lpt_events.specs.declared.side.Side.{Side}
 use Rattle.lpt_events.specs.declared.side.Side.TheVariants.{Ground, Craft}
 use Rattle.lpt_events.specs.declared.worker.Worker.TheVariants.{W1}
-use Rattle.lpt_jobs.specs.Jobs.{head_of}
+use Rattle.lpt_jobs.specs.Jobs.{claimed_in, head_of, without_front}
 use Rattle.lpt_memory.specs.Meanings.{Sizes}
 use Rattle.lpt_memory.specs.Memories.{Contents, sizes_of}
 use Rattle.lpt_memory.specs.Readings.{Job}
@@ -40,14 +43,32 @@ use Rattle.lpt_node.specs.Accepting.{packet_accepted}
 use Rattle.lpt_node.specs.declared.accepted.Accepted.{Accepted}
 use Rattle.lpt_node.specs.declared.expired.Expired.{Expired}
 use Rattle.lpt_node.specs.Restarts.{name_retired, node_restarted}
-use Rattle.lpt_node.specs.Jobs.{Execution, FrontIsFor, refusal_claim, job_claimed, refusal_apply, job_executed, executed_given}
+use Rattle.lpt_node.specs.Jobs.{Execution, FrontIsFor, refusal_claim, job_claimed, refusal_apply, job_executed, executed_given, refused_front}
 use Rattle.lpt_node.proofs.GivenLemmas.{given_over}
 use Rattle.lpt_node.specs.Nodes.{NodeData}
 use Rattle.lpt_node.specs.Requests.{refusal_plain, plain_made}
 use Rattle.lpt_node.specs.Sending.{refusal_open, message_opened, refusal_send, part_sent, refusal_finish, sender_closed}
 use Rattle.lpt_node.specs.Times.{can_set_back, clock_back, due, refusal_tick, clock_ticked, refusal_expire, refusal_give_up, reception_expired, expired_of, which_ends}
+use Rattle.lpt_pus.specs.Codes.{number_of}
 use Rattle.lpt_model.specs.State.{as_list}
 use Rattle.lpt_model.specs.Tickets.{Tickets, ticket_of, with_ticket}
+
+-- a number in its range is refused by nothing else
+in_range : (b : Bool) (o : Option ℕ) → (if b then o else Some range) ≡ None → o ≡ None
+in_range true o none = none
+in_range false o none = absurd cc
+
+-- the oldest request of all is dropped unread if it wasn't read and waits
+unread : (n : ℕ) (o : Option ℕ)
+    → (if n == 0 then o else Some already_read) ≡ None
+    → (n ≡ 0) × (o ≡ None)
+unread n o none = go (n == 0) refl none where
+  go : (b : Bool)
+      → (n == 0) ≡ b
+      → (if b then o else Some already_read) ≡ None
+      → (n ≡ 0) × (o ≡ None)
+  go true is e = (true_eq n 0 is, e)
+  go false is e = absurd cc
 
 module _ (c : Config) (p : Pair) (g k : End) (are : AreEndsOf c p g k) where
   -- what waits where a call of ground puts nothing out
@@ -293,6 +314,20 @@ module _ (c : Config) (p : Pair) (g k : End) (are : AreEndsOf c p g k) where
       sym (ap (λ (o : Kept). elsewhere_refusal o (sending_refusal
       (length_refusal (unready g) (first_read g) octets) g.outbox.items)) are.ground.memories)
       ∙ done.0 in cc)
+  on_ground Drop new done vow =
+      absurd (let both : Some no_job ≡ None =
+      sym (ap (λ (o : Kept). memories_refusal o (node_code
+      (refusal_claim g.node.at))) are.ground.memories)
+      ∙ (unread _ (read_refusal g) done.0).1 in cc)
+  on_ground DropRead new done vow =
+      absurd (let both : Some no_job ≡ None =
+      sym (ap (λ (o : Kept). memories_refusal o (unready g)) are.ground.memories) ∙ done.0 in cc)
+  on_ground (Refuse code) new done vow =
+      absurd (let both : Some no_job ≡ None =
+      sym (ap (λ (o : Kept). memories_refusal o (sending_refusal (unready g) g.outbox.items))
+      are.ground.memories)
+      ∙ in_range (nat_le 1 (number_of code) && nat_le (number_of code) 8)
+      (refuse_as_refusal g) done.0 in cc)
   on_ground (Retire direction name) new done vow =
       free_ground (direction_by direction) name new vow.0 vow.1 done.fixed done.node done.outbox
   on_ground (RetireFree direction name) new done vow = (
@@ -638,6 +673,75 @@ module _ (c : Config) (p : Pair) (g k : End) (are : AreEndsOf c p g k) where
       )
   on_craft Execute new done vow = craft_executes are.place refl new done vow
   on_craft (ExecuteGiven octets) new done vow = craft_given octets are.place refl new done vow
+  on_craft Drop new done vow =
+      let d : NodeData = p.ends.on_craft in
+      let none : node_code (refusal_claim k.node.at) ≡ None =
+      sym (ap (λ (o : Kept). memories_refusal o (node_code
+      (refusal_claim k.node.at))) are.craft.memories
+      ∙ refusal_kept are.place p.ends.memories (node_code (refusal_claim k.node.at)))
+      ∙ (unread _ (read_refusal k) done.0).1 in
+      let free : refusal_claim d ≡ None =
+      sym (λ i. refusal_claim (are.craft.node i)) ∙ no_fault (refusal_claim k.node.at) none in
+      let oldest : claimed_in d.jobs.jobs ≡ 0 =
+      ap (λ (n : NodeData). claimed_in n.jobs.jobs) (sym are.craft.node)
+      ∙ (unread _ (read_refusal k) done.0).0 in
+      let t : Job = (job_claimed d).1 in
+      let f : Pair = after_all c p (moves Craft Drop) in
+      let left = read_first d (record {
+        apid = c.apid;
+        sizes = sizes_of p.ends.memories;
+        message = t.message;
+      }) free oldest in (
+        (
+          ((tt, (ap (λ (ts : Tickets). ticket_of ts W1) are.tickets, free)), refl),
+          left.ready,
+        ),
+        craft_becomes c p f g k new are done.1.fixed.side done.1.fixed.config
+            (done.1.node
+            ∙ ap (λ (n : NodeData). record n { jobs = without_front n.jobs }) are.craft.node
+            ∙ sym left.is)
+            refl
+            (done.1.fixed.memories ∙ are.craft.memories)
+            (λ i. with_ticket (with_ticket (are.tickets i) W1 (Some t)) W1 None)
+            (quiet_craft f.ends new.outbox.items refl done.1.outbox).0
+            (quiet_craft f.ends new.outbox.items refl done.1.outbox).1,
+      )
+  on_craft DropRead new done vow =
+      let f : Pair = after_all c p (moves Craft DropRead) in
+      let ways = quiet_craft f.ends new.outbox.items refl done.1.outbox in
+      let none : unready k ≡ None =
+      sym (ap (λ (o : Kept). memories_refusal o (unready k)) are.craft.memories
+      ∙ refusal_kept are.place p.ends.memories (unready k)) ∙ done.0 in (
+        (
+          tt,
+          sym (λ i. refusal_apply (are.craft.node i)) ∙ no_fault (refusal_apply k.node.at) none,
+        ),
+        craft_fixed c p f g k new are done.1.fixed
+            (done.1.node
+            ∙ ap (λ (n : NodeData). record n { jobs = without_front n.jobs }) are.craft.node)
+            refl refl refl ways.0 ways.1,
+      )
+  on_craft (Refuse code) new done vow =
+      let f : Pair = after_all c p (moves Craft (Refuse code)) in
+      let unsent : sending_refusal (unready k) k.outbox.items ≡ None =
+      sym (ap (λ (o : Kept). memories_refusal o (sending_refusal (unready k) k.outbox.items))
+      are.craft.memories
+      ∙ refusal_kept are.place p.ends.memories (sending_refusal (unready k) k.outbox.items))
+      ∙ in_range (nat_le 1 (number_of code) && nat_le (number_of code) 8)
+      (refuse_as_refusal k) done.0 in
+      let none : unready k ≡ None = not_unsent (unready k) k.outbox.items unsent in
+      let x : NodeData × Execution = refused_front c p.ends.on_craft code in
+      let same : refused_front k.config k.node.at code ≡ x = refuses_front are.craft code in (
+        (
+          tt,
+          sym (λ i. refusal_apply (are.craft.node i)) ∙ no_fault (refusal_apply k.node.at) none,
+        ),
+        craft_fixed c p f g k new are done.1.fixed
+            (done.1.node ∙ ap (λ (y : NodeData × Execution). y.0) same) refl refl refl
+            (beside p.ends f.ends Up Down None g.outbox.items x.1.packets refl are.upwards)
+            (replaces p.ends f.ends Down None new.outbox.items x.1.packets refl
+            (done.1.outbox ∙ ap (λ (y : NodeData × Execution). y.1.packets) same)),
+      )
   on_craft (Retire direction name) new done vow =
       free_craft (direction_by direction) name new vow.0 vow.1 done.fixed done.node done.outbox
   on_craft (RetireFree direction name) new done vow = (

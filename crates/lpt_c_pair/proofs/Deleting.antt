@@ -2,7 +2,7 @@
 use Rattle.std.proofs.Common.{◌≡◌, ◌∙◌, ap, sym, refl, ℕ, List, [], ◌∷◌, ◌++◌}
 use Rattle.lpt_c_end.specs.declared.end.End.{End}
 use Rattle.lpt_c_pair.specs.Pairs.{Call}
-use Rattle.lpt_c_pair.specs.Programs.{Act, Calls, Gives, Program, Puts, Settles, ToldWrite, Writes, program_after, came_by, put_told, program_started, CanActAll}
+use Rattle.lpt_c_pair.specs.Programs.{Act, Calls, Gives, Program, Puts, Settles, TakesBack, ToldWrite, Writes, program_after, came_by, put_told, program_started, stood_by, CanActAll}
 use Rattle.lpt_c_pair.specs.Resets.{ActDeed, Does, Keeps, Lived, Machines, ResetProgramsKeepTheirMemories, ResetsCraft, ResetsGround, Stays, CanLive, CanLiveAll, actor, did, just_begun, lived_after, lived_all, machines_of, act_stayed}
 use Rattle.lpt_c_pair.proofs.Programs.{programs_keep_their_memories}
 use Rattle.lpt_c_pair.proofs.Withholding.{programs_withhold_nothing}
@@ -17,9 +17,16 @@ pub record Aboard : Type 0 where
   pub memories : Contents
   pub ahead : List ToldWrite
   pub owed : List ToldWrite
+  pub stood : Contents
 
 abbrev pub aboard : Machines → Aboard
-aboard m = record { end = m.on_craft; memories = m.memories; ahead = m.ahead; owed = m.owed }
+aboard m = record {
+  end = m.on_craft;
+  memories = m.memories;
+  ahead = m.ahead;
+  owed = m.owed;
+  stood = m.stood;
+}
 
 -- that of ground and that of the spacecraft are all
 both : (m n : Machines) → m.on_ground ≡ n.on_ground → aboard m ≡ aboard n → m ≡ n
@@ -29,6 +36,7 @@ both m n ground craft = λ i. record {
   memories = (craft i).memories;
   ahead = (craft i).ahead;
   owed = (craft i).owed;
+  stood = (craft i).stood;
 }
 
 module _ (c : Config) (start : Program) where
@@ -131,7 +139,11 @@ module _ (c : Config) (start : Program) where
 
   of_writes : (t : ToldWrite) → IsOfCraft (Writes t)
   of_writes t = record {
-    next = λ a. record a { memories = put_told (t ∷ []) a.memories; ahead = a.ahead ++ t ∷ [] };
+    next = λ a. record a {
+      memories = put_told (t ∷ []) a.memories;
+      ahead = a.ahead ++ t ∷ [];
+      stood = stood_by a.ahead a.memories a.stood;
+    };
     of_machines = λ x. refl;
     of_run = λ p. refl;
     leaves_machines = λ x. refl;
@@ -166,6 +178,15 @@ module _ (c : Config) (start : Program) where
     leaves_run = λ p. refl;
   }
 
+  of_takes_back : IsOfCraft TakesBack
+  of_takes_back = record {
+    next = λ a. record a { memories = stood_by a.ahead a.memories a.stood; ahead = [] };
+    of_machines = λ x. refl;
+    of_run = λ p. refl;
+    leaves_machines = λ x. refl;
+    leaves_run = λ p. refl;
+  }
+
   does : (l : Lived) (x : Act)
       → IsLived l
       → CanLive c start l (Does x)
@@ -183,6 +204,7 @@ module _ (c : Config) (start : Program) where
       acts_craft l (Gives octets owed new) (of_gives octets owed new) r can
   does l (Puts ms) r can = acts_craft l (Puts ms) (of_puts ms) r can
   does l Settles r can = acts_craft l Settles of_settles r can
+  does l TakesBack r can = acts_craft l TakesBack of_takes_back r can
 
   -- ---- acts that no reset deletes
 
@@ -216,6 +238,7 @@ module _ (c : Config) (start : Program) where
       craft_stays l (Gives octets owed new) (of_gives octets owed new) r can
   lives l (Stays (Puts ms)) r can = craft_stays l (Puts ms) (of_puts ms) r can
   lives l (Stays Settles) r can = craft_stays l Settles of_settles r can
+  lives l (Stays TakesBack) r can = craft_stays l TakesBack of_takes_back r can
   lives l (Keeps Ground) r can = record {
     can = r.can;
     ground = r.ground;
@@ -250,6 +273,7 @@ module _ (c : Config) (start : Program) where
         memories = ms;
         ahead = x.ahead;
         owed = x.owed;
+        stood = x.stood;
       } in
       record {
         can = can;
@@ -259,6 +283,7 @@ module _ (c : Config) (start : Program) where
           memories = ms;
           ahead = sym none i;
           owed = (came_by c start l.but_craft).owed;
+          stood = (came_by c start l.but_craft).stood;
         };
         ground_still = refl;
         ground_back = refl;

@@ -12,7 +12,7 @@ use Rattle.lpt_c_end.specs.Words.{direction_from as direction_by}
 use Rattle.lpt_c_end.specs.declared.end.End.{End}
 use Rattle.lpt_c_end.specs.declared.kept.Kept.{Kept}
 use Rattle.lpt_c_end.specs.declared.kept.Kept.TheVariants.{Nowhere, Here, Elsewhere}
-use Rattle.lpt_c_pair.specs.Pairs.{Call, Open, Part, Plain, Finish, LetGo, Packet, Expire, GiveUp, Tick, Rebase, Read, Execute, ExecuteGiven, Retire, RetireFree, Restart, Resume, ResumeSized, Fails, IsDone}
+use Rattle.lpt_c_pair.specs.Pairs.{Call, Open, Part, Plain, Finish, LetGo, Packet, Expire, GiveUp, Tick, Rebase, Read, Execute, ExecuteGiven, Drop, DropRead, Refuse, Retire, RetireFree, Restart, Resume, ResumeSized, Fails, IsDone}
 use Rattle.lpt_c_pair.specs.Programs.{ToldWrite, IsTold}
 use Rattle.lpt_apart.proofs.Handed.{put_in_place, waits}
 use Rattle.lpt_c_pair.proofs.Lemmas.{no_fault}
@@ -111,10 +111,13 @@ reads_leaves r c d (Some sizes) none front =
 
 -- ---- calls
 
--- no request is executed, and its end goes on
+-- no request leaves the queue, and its end goes on
 abbrev pub GoesOn : Call → Type 0
 GoesOn Execute = ⊥
 GoesOn (ExecuteGiven octets) = ⊥
+GoesOn Drop = ⊥
+GoesOn DropRead = ⊥
+GoesOn (Refuse code) = ⊥
 GoesOn Restart = ⊥
 GoesOn (Resume config state ms content) = ⊥
 GoesOn (ResumeSized config state sizes) = ⊥
@@ -164,6 +167,9 @@ front_stays e new Read r done on front =
     (no_claim_fault e.memories e.node.at done.0) front
 front_stays e new Execute r done on front = absurd on
 front_stays e new (ExecuteGiven octets) r done on front = absurd on
+front_stays e new Drop r done on front = absurd on
+front_stays e new DropRead r done on front = absurd on
+front_stays e new (Refuse code) r done on front = absurd on
 front_stays e new (Retire direction name) r done on front =
     leaves r e.node.at (name_retired e.side e.node.at (direction_by direction) name) new.node.at
     done.node (retired_leaves e.side e.node.at (direction_by direction) name) front

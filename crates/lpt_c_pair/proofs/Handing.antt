@@ -1,7 +1,8 @@
 -- What is copied and told out of an end is what the log's newest facts are.
 use Rattle.std.proofs.Common.{◌≡◌, ◌∙◌, ap, sym, subst, refl, ℕ, List, [], ◌∷◌, Option, Some, None}
 use Rattle.std.specs.Option.{option_map}
-use Rattle.lpt_apart.specs.Facts.{Executed, Released, Log, AllDue, with_abortion}
+use Rattle.lpt_acts.specs.Acts as act
+use Rattle.lpt_apart.specs.Facts.{Left, Released, Log, AllDue, with_abortion}
 use Rattle.lpt_apart.specs.Steps.{with_release, with_report}
 use Rattle.lpt_c_end.specs.Accesses.{IsAppliedGiven, first_read, length_refusal, unready}
 use Rattle.lpt_c_end.specs.Calls.{IsApplied}
@@ -17,7 +18,7 @@ use Rattle.lpt_c_end.specs.declared.words.LptApplied.{LptApplied}
 use Rattle.lpt_c_end.specs.declared.words.LptOutcome.{LptOutcome}
 use Rattle.lpt_c_end.specs.Words.{applied_words, words}
 use Rattle.lpt_c_pair.specs.Handed.{AllLeave, ExecutionsAreTold, GivenExecutionsAreTold, IsExecutedSo, IsHanded, LeavesReleased, MessagesAreHanded, MessagesStay}
-use Rattle.lpt_c_pair.specs.Pairs.{AreEndsOf, Call, Open, Part, Plain, Finish, LetGo, Packet, Expire, GiveUp, Tick, Rebase, Read, Execute, ExecuteGiven, Retire, RetireFree, Restart, Resume, ResumeSized, Fails, InEnd, IsDone, IsEndOf, CallPlace, WithProgram, end_of, kept_in}
+use Rattle.lpt_c_pair.specs.Pairs.{AreEndsOf, Call, Open, Part, Plain, Finish, LetGo, Packet, Expire, GiveUp, Tick, Rebase, Read, Execute, ExecuteGiven, Drop, DropRead, Refuse, Retire, RetireFree, Restart, Resume, ResumeSized, Fails, InEnd, IsDone, IsEndOf, CallPlace, WithProgram, end_of, kept_in}
 use Rattle.lpt_c_pair.specs.Runs.{CallTurn, Standing, CanTurnBy, CanStand, KeepsThePromise, stood, turned_by}
 use Rattle.lpt_c_pair.proofs.Clockless.{executes, executes_over, takes}
 use Rattle.lpt_c_pair.proofs.GivenLemmas.{not_short}
@@ -159,6 +160,9 @@ released_stays (Rebase ticks) e new done may = done.1.released
 released_stays Read e new done may = done.1.released
 released_stays Execute e new done may = done.1.released
 released_stays (ExecuteGiven octets) e new done may = done.1.released
+released_stays Drop e new done may = done.1.released
+released_stays DropRead e new done may = done.1.released
+released_stays (Refuse code) e new done may = done.1.released
 released_stays (Retire direction name) e new done may = done.released
 released_stays (RetireFree direction name) e new done may = done.released
 released_stays Fails e new done may = done.released
@@ -249,9 +253,9 @@ module _ (c : Config) (first : Contents) (s : Standing) where
       → KeepsThePromise c first s
       → IsRead (head_of s.on_craft.node.at.jobs.jobs)
       → told ≡ applied_words it.applied
-      → AllDue (Executed ∷ with_report s.pair.ends.log it.opened)
+      → AllDue (Left act.Execute ∷ with_report s.pair.ends.log it.opened)
       → IsExecutedSo s.on_craft told s.pair.ends.log
-      (Executed ∷ with_report s.pair.ends.log it.opened)
+      (Left act.Execute ∷ with_report s.pair.ends.log it.opened)
   told_so told before front says due = record {
     request = front.read;
     read = ap front_reading front.is;

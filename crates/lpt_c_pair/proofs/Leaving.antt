@@ -10,7 +10,7 @@ use Rattle.lpt_c_end.specs.Words.{direction_from as direction_by}
 use Rattle.lpt_c_end.specs.declared.end.End.{End}
 use Rattle.lpt_c_end.specs.declared.kept.Kept.{Kept}
 use Rattle.lpt_c_end.specs.declared.kept.Kept.TheVariants.{Nowhere, Elsewhere}
-use Rattle.lpt_c_pair.specs.Pairs.{Call, Open, Part, Plain, Finish, LetGo, Packet, Expire, GiveUp, Tick, Rebase, Read, Execute, ExecuteGiven, Retire, RetireFree, Restart, Resume, ResumeSized, Fails, IsDone, Promises, freeing, moves}
+use Rattle.lpt_c_pair.specs.Pairs.{Call, Open, Part, Plain, Finish, LetGo, Packet, Expire, GiveUp, Tick, Rebase, Read, Execute, ExecuteGiven, Drop, DropRead, Refuse, Retire, RetireFree, Restart, Resume, ResumeSized, Fails, IsDone, Promises, freeing, moves}
 use Rattle.lpt_c_pair.specs.Programs.{Program, MayCall}
 use Rattle.lpt_events.specs.declared.config.Config.{Config}
 use Rattle.lpt_events.specs.declared.side.Side.{Side}
@@ -57,6 +57,9 @@ module _ (c : Config) (p : Pair) where
       sym (ap (λ (o : Kept). elsewhere_refusal o (sending_refusal
       (length_refusal (unready g) (first_read g) octets) g.outbox.items)) none)
       ∙ done.0 in cc)
+  ground_leaves g new Drop none done = refl
+  ground_leaves g new DropRead none done = refl
+  ground_leaves g new (Refuse code) none done = refl
   ground_leaves g new (Retire direction name) none done =
       freeing_leaves Ground (direction_by direction) name
   ground_leaves g new (RetireFree direction name) none done = refl
@@ -104,6 +107,12 @@ module _ (c : Config) (p : Pair) where
       sym (ap (λ (o : Kept). here_refusal o (sending_refusal (node_code
       (refusal_apply k.node.at)) k.outbox.items)) at) ∙ done.0 in cc)
   craft_leaves g k new sizes q (ExecuteGiven octets) at done vow may = absurd may
+  craft_leaves g k new sizes q Drop at done vow may =
+      record { memories = refl; place = done.1.fixed.memories ∙ at }
+  craft_leaves g k new sizes q DropRead at done vow may =
+      record { memories = refl; place = done.1.fixed.memories ∙ at }
+  craft_leaves g k new sizes q (Refuse code) at done vow may =
+      record { memories = refl; place = done.1.fixed.memories ∙ at }
   craft_leaves g k new sizes q (Retire direction name) at done vow may =
       record {
         memories = freeing_leaves Craft (direction_by direction) name;

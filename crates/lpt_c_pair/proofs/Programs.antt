@@ -1,5 +1,6 @@
 -- The memories of the spacecraft's program, whatever it and the two ends do.
 use Rattle.std.proofs.Common.{◌≡◌, ◌∙◌, ap, sym, subst, refl, ℕ, ◌+◌, List, [], ◌∷◌, ◌++◌, length, Option, Some, None, arith}
+use Rattle.std.specs.Prelude.{⊤}
 use Rattle.lpt_apart.specs.Clocks.{later, Own, own_config}
 use Rattle.lpt_apart.proofs.Clocks.{reached_keep}
 use Rattle.lpt_c_end.specs.Accesses.{first_read, length_refusal, unready}
@@ -13,8 +14,8 @@ use Rattle.lpt_c_end.specs.declared.kept.Kept.{Kept}
 use Rattle.lpt_c_end.specs.declared.kept.Kept.TheVariants.{Nowhere, Elsewhere}
 use Rattle.lpt_c_end.specs.declared.memories.LptMemory.{LptMemory}
 use Rattle.lpt_c_end.specs.declared.sizing.LptSize.{LptSize}
-use Rattle.lpt_c_pair.specs.Pairs.{WithProgram, Call, Open, Part, Plain, Finish, LetGo, Packet, Expire, GiveUp, Tick, Rebase, Read, Execute, ExecuteGiven, Retire, RetireFree, Restart, Resume, ResumeSized, Fails, IsDone}
-use Rattle.lpt_c_pair.specs.Programs.{ToldWrite, IsTold, AreTold, put_told, Program, Act, Calls, Writes, Gives, Puts, Settles, program_after, came_by, CanAct, CanActAll, MayCall, ProgramsKeepTheirMemories, program_started}
+use Rattle.lpt_c_pair.specs.Pairs.{WithProgram, Call, Open, Part, Plain, Finish, LetGo, Packet, Expire, GiveUp, Tick, Rebase, Read, Execute, ExecuteGiven, Drop, DropRead, Refuse, Retire, RetireFree, Restart, Resume, ResumeSized, Fails, IsDone}
+use Rattle.lpt_c_pair.specs.Programs.{ToldWrite, IsTold, AreTold, put_told, Program, Act, Calls, Writes, Gives, Puts, Settles, TakesBack, program_after, came_by, stood_by, CanAct, CanActAll, MayCall, ProgramsKeepTheirMemories, program_started}
 use Rattle.lpt_c_pair.proofs.GivenLemmas.{not_short}
 use Rattle.lpt_c_pair.proofs.Lemmas.{IsRead, no_fault, not_unsent, was_read}
 use Rattle.lpt_c_pair.proofs.Running.{IsStood, begins, turn}
@@ -33,6 +34,11 @@ use Rattle.lpt_node.specs.Jobs.{FrontHolds, executed_of, refusal_apply}
 use Rattle.lpt_node.specs.Nodes.{NodeData}
 use Rattle.lpt_c_pair.proofs.Leaving.{craft_leaves, ground_leaves}
 
+-- where something was written ahead, what stood there are the memories of the two ends apart
+abbrev pub IsBack : List ToldWrite → (owed : List ToldWrite) → (stood apart : Contents) → Type 0
+IsBack [] owed stood ms = ⊤
+IsBack (t ∷ ts) owed stood ms = (stood ≡ ms) × (owed ≡ [])
+
 -- the program has the memories, and they are those of the two ends apart, but for what it has
 -- written ahead and what it owes
 pub record IsOwn (p : Program) : Type 0 where
@@ -40,6 +46,42 @@ pub record IsOwn (p : Program) : Type 0 where
   pub place : p.ends.on_craft.memories ≡ Elsewhere sizes
   pub same : put_told p.owed p.memories ≡ put_told p.ahead p.ends.pair.ends.memories
   pub told : WereTold 0 p.ahead p.ends.on_craft
+  pub back : IsBack p.ahead p.owed p.stood p.ends.pair.ends.memories
+
+-- ---- what stood there
+
+back_over : (ahead owed : List ToldWrite) (stood ms ns : Contents)
+    → ns ≡ ms
+    → IsBack ahead owed stood ms
+    → IsBack ahead owed stood ns
+back_over [] owed stood ms ns same back = tt
+back_over (t ∷ ts) owed stood ms ns same back = (back.0 ∙ sym same, back.1)
+
+-- what is written ahead can be put back
+more_back : (ahead : List ToldWrite) (t : ToldWrite) (owed : List ToldWrite)
+    (ms stood ns : Contents)
+    → owed ≡ []
+    → put_told owed ms ≡ put_told ahead ns
+    → IsBack ahead owed stood ns
+    → IsBack (ahead ++ t ∷ []) owed (stood_by ahead ms stood) ns
+more_back [] t owed ms stood ns none same back =
+    (sym (ap (λ (ts : List ToldWrite). put_told ts ms) none) ∙ same, none)
+more_back (x ∷ xs) t owed ms stood ns none same back = back
+
+-- and so it is
+put_back : (ahead owed : List ToldWrite) (ms stood ns : Contents)
+    → put_told owed ms ≡ put_told ahead ns
+    → IsBack ahead owed stood ns
+    → put_told owed (stood_by ahead ms stood) ≡ ns
+put_back [] owed ms stood ns same back = same
+put_back (t ∷ ts) owed ms stood ns same back =
+    ap (λ (xs : List ToldWrite). put_told xs stood) back.1 ∙ back.0
+
+settled : (ahead owed : List ToldWrite) (stood ns : Contents)
+    → IsBack ahead owed stood ns
+    → IsBack ahead [] stood ns
+settled [] owed stood ns back = tt
+settled (t ∷ ts) owed stood ns back = (back.0, refl)
 
 module _ (c : Config) where
   -- what a program gives that executes the oldest request: it was read, all writes were told, and
@@ -77,6 +119,9 @@ module _ (c : Config) where
       sym (ap (λ (o : Kept). here_refusal o (sending_refusal (node_code
       (refusal_apply p.ends.on_craft.node.at)) p.ends.on_craft.outbox.items)) at) ∙ done.0 in cc)
   told_after p sizes new (ExecuteGiven octets) at done may told = absurd may
+  told_after p sizes new Drop at done may told = none_told p.ahead new may
+  told_after p sizes new DropRead at done may told = none_told p.ahead new may
+  told_after p sizes new (Refuse code) at done may told = none_told p.ahead new may
   told_after p sizes new Restart at done may told = none_told p.ahead new may
   told_after p sizes new (Resume config state ms content) at done may told =
       none_told p.ahead new may
@@ -168,6 +213,7 @@ module _ (c : Config) where
             ∙ told_is_effect k w.front.read w.front.is (p.ahead ++ owed) ghost w.all
             ∙ ap (λ (h : Head). (executed_of c d ghost h).1) (sym apart);
         told = tt;
+        back = tt;
       }
 
   -- a write ahead
@@ -189,6 +235,9 @@ module _ (c : Config) where
         told =
             told_more 0 p.ahead t p.ends.on_craft r.told
             (subst (λ (n : ℕ). IsTold n t p.ends.on_craft) (sym zero_on) can.1);
+        back =
+            more_back p.ahead t p.owed p.memories p.stood p.ends.pair.ends.memories can.0 r.same
+            r.back;
       }
 
   -- a call of ground leaves all of it
@@ -197,15 +246,15 @@ module _ (c : Config) where
       → IsOwn p
       → CanAct c p (Calls (record { side = Ground; call = call; new = new }))
       → IsOwn (program_after c p (Calls (record { side = Ground; call = call; new = new })))
-  calls_ground p call new none r can = record {
-    sizes = r.sizes;
-    place = r.place;
-    same =
-        r.same
-        ∙ ap (put_told p.ahead)
-        (sym (ground_leaves c p.ends.pair p.ends.on_ground new call none can.0.0));
-    told = r.told;
-  }
+  calls_ground p call new none r can =
+      let leaves = ground_leaves c p.ends.pair p.ends.on_ground new call none can.0.0 in
+      record {
+        sizes = r.sizes;
+        place = r.place;
+        same = r.same ∙ ap (put_told p.ahead) (sym leaves);
+        told = r.told;
+        back = back_over p.ahead p.owed p.stood p.ends.pair.ends.memories _ leaves r.back;
+      }
 
   -- and so does one of the spacecraft that executes nothing
   pub calls_craft : (p : Program) (call : Call) (new : End)
@@ -220,6 +269,7 @@ module _ (c : Config) where
         place = l.place;
         same = r.same ∙ ap (put_told p.ahead) (sym l.memories);
         told = told_after p r.sizes new call r.place can.0.0 can.1 r.told;
+        back = back_over p.ahead p.owed p.stood p.ends.pair.ends.memories _ l.memories r.back;
       }
 
 -- the ends stand where moves lead, and the memories are the program's
@@ -261,6 +311,7 @@ module _ (c : Config) (first : Contents) where
       place = r.own.place;
       same = can ∙ r.own.same;
       told = r.own.told;
+      back = r.own.back;
     };
   }
   acts p Settles r can = record {
@@ -270,6 +321,19 @@ module _ (c : Config) (first : Contents) where
       place = r.own.place;
       same = r.own.same;
       told = r.own.told;
+      back = settled p.ahead p.owed p.stood p.ends.pair.ends.memories r.own.back;
+    };
+  }
+  acts p TakesBack r can = record {
+    stands = r.stands;
+    own = record {
+      sizes = r.own.sizes;
+      place = r.own.place;
+      same =
+          put_back p.ahead p.owed p.memories p.stood p.ends.pair.ends.memories r.own.same
+          r.own.back;
+      told = tt;
+      back = tt;
     };
   }
 
@@ -302,7 +366,7 @@ starts c a b none nothing sizes first g k good_g good_k same new_g new_k =
             released = new_k.released;
             outbox = new_k.outbox;
           });
-      own = record { sizes = sizes_of first; place = known; same = refl; told = tt };
+      own = record { sizes = sizes_of first; place = known; same = refl; told = tt; back = tt };
     }
 
 pub programs_keep_their_memories : ProgramsKeepTheirMemories

@@ -7,7 +7,7 @@ use Rattle.lpt_apart.proofs.Clocks.{ends_with_clocks_withhold_nothing}
 use Rattle.lpt_c_end.specs.Contents.{memories_told}
 use Rattle.lpt_c_end.specs.declared.end.End.{End}
 use Rattle.lpt_c_pair.specs.Pairs.{AreEndsOf, Call, ExecuteGiven, InEnd, moves}
-use Rattle.lpt_c_pair.specs.Programs.{Program, Act, Calls, Writes, Gives, Puts, Settles, program_started, came_by, CanActAll}
+use Rattle.lpt_c_pair.specs.Programs.{Program, Act, Calls, Writes, Gives, Puts, Settles, TakesBack, program_started, came_by, CanActAll}
 use Rattle.lpt_c_pair.specs.Runs.{CallTurn, Standing, standing_begun, turned_by, CanTurnBy, stood, CanStand}
 use Rattle.lpt_c_pair.specs.Withheld.{moves_of, turns_of, EndsOfCWithholdNothing, ProgramsWithholdNothing}
 use Rattle.lpt_c_pair.proofs.Calls.{calls_are_moves}
@@ -135,6 +135,8 @@ module _ (c : Config) (first : Contents) (p : Program) (begun : IsKeeping c firs
   turned (Puts ms ∷ xs) can =
       let r : AreTurned c p xs = turned xs can.0 in record { can = r.can; is = r.is }
   turned (Settles ∷ xs) can =
+      let r : AreTurned c p xs = turned xs can.0 in record { can = r.can; is = r.is }
+  turned (TakesBack ∷ xs) can =
       let r : AreTurned c p xs = turned xs can.0 in record { can = r.can; is = r.is }
 
 pub programs_withhold_nothing : ProgramsWithholdNothing

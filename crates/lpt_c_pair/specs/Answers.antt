@@ -1,8 +1,8 @@
 -- A call that answers 0 was refused by nothing.
 use Rattle.std.specs.Prelude.{◌≡◌, ℕ, List, None}
-use Rattle.lpt_c_end.specs.Accesses.{given_refusal, unready}
+use Rattle.lpt_c_end.specs.Accesses.{drop_read_refusal, given_refusal}
 use Rattle.lpt_c_end.specs.Codes.{IsAnswer, answer}
-use Rattle.lpt_c_end.specs.Refusals.{open_refusal, part_refusal, plain_refusal, finish_refusal, sent_refusal, expire_refusal, give_up_refusal, tick_refusal, ticks_refusal, rebase_refusal, read_refusal, execute_refusal}
+use Rattle.lpt_c_end.specs.Refusals.{open_refusal, part_refusal, plain_refusal, finish_refusal, sent_refusal, expire_refusal, give_up_refusal, tick_refusal, ticks_refusal, rebase_refusal, read_refusal, drop_refusal, execute_refusal}
 use Rattle.lpt_c_end.specs.Refusing.{refuse_refusal}
 use Rattle.lpt_c_end.specs.declared.end.End.{End}
 use Rattle.lpt_packet.specs.Names.{Name}
@@ -33,10 +33,11 @@ pub record ZeroIsDone (e : End) : Type 0 where
       → 0 ≡ answer (rebase_refusal ticks e)
       → rebase_refusal ticks e ≡ None
   pub read : IsAnswer (read_refusal e) 0 → read_refusal e ≡ None
+  pub dropped : IsAnswer (drop_refusal e) 0 → drop_refusal e ≡ None
   pub executed : IsAnswer (execute_refusal e) 0 → execute_refusal e ≡ None
   pub given : (octets : List ℕ) → IsAnswer (given_refusal octets e) 0
       → given_refusal octets e ≡ None
-  pub read_dropped : 0 ≡ answer (unready e) → unready e ≡ None
+  pub read_dropped : 0 ≡ answer (drop_read_refusal e) → drop_read_refusal e ≡ None
   pub refused : (number : ℕ)
       → IsAnswer (refuse_refusal number e) 0
       → refuse_refusal number e ≡ None

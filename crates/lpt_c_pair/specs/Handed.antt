@@ -2,7 +2,8 @@
 use Rattle.std.specs.Prelude.{◌≡◌, ℕ, List, [], ◌∷◌, Ok, Option, Some, ⊤}
 use Rattle.std.specs.List.{slice_get}
 use Rattle.std.specs.Option.{option_map}
-use Rattle.lpt_apart.specs.Facts.{Executed, Released, IsDue, Log, waiting}
+use Rattle.lpt_acts.specs.Acts as act
+use Rattle.lpt_apart.specs.Facts.{Left, Released, IsDue, Log, waiting}
 use Rattle.lpt_apart.specs.Steps.{with_report}
 use Rattle.lpt_c_end.specs.Accesses.{IsAppliedGiven, first_read}
 use Rattle.lpt_c_end.specs.Calls.{IsApplied, IsTold, released_of as copied}
@@ -86,8 +87,8 @@ pub record IsExecutedSo (e : End) (told : LptApplied) (before after : Log) : Typ
   pub applied : Applied
   pub report : Option (Name × List ℕ)
   pub says : told ≡ applied_words applied
-  pub log : after ≡ Executed ∷ with_report before report
-  pub due : IsDue Executed (with_report before report)
+  pub log : after ≡ Left act.Execute ∷ with_report before report
+  pub due : IsDue (Left act.Execute) (with_report before report)
   pub named : (name : Name)
       → applied ≡ Done (Some name)
       → option_map (λ x. x.0) report ≡ Some name

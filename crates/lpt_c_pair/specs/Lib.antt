@@ -1,17 +1,12 @@
 pub mod Answers
-pub mod Drops
 pub mod Handed
 pub mod Histories
-pub mod Keepers
 pub mod Loads
-pub mod Outages
 pub mod Outboxes
 pub mod Pairs
-pub mod Pasts
 pub mod Programs
 pub mod Redo
 pub mod Resets
 pub mod Runs
-pub mod Services
 pub mod Ticks
 pub mod Withheld

@@ -7,11 +7,12 @@ use Rattle.lpt_apart.specs.Moves.{Pair, Move, Do, Free, CanMove}
 use Rattle.lpt_apart.specs.Steps as step
 use Rattle.lpt_apart.specs.Steps.{MayCome}
 use Rattle.lpt_apart_kept.specs.Deeds.{with_restart}
-use Rattle.lpt_c_end.specs.Accesses.{IsExecutedGiven, given_refusal}
-use Rattle.lpt_c_end.specs.Changes.{IsOpened, IsPartMade, IsPlainMade, IsFinished, IsLetGo, IsDelivered, IsExpired, IsGivenUp, IsTicked, IsRebased, IsRead, IsExecuted, IsRetired, IsRestarted, IsSame}
+use Rattle.lpt_c_end.specs.Accesses.{IsExecutedGiven, drop_read_refusal, given_refusal}
+use Rattle.lpt_c_end.specs.Changes.{IsOpened, IsPartMade, IsPlainMade, IsFinished, IsLetGo, IsDelivered, IsExpired, IsGivenUp, IsTicked, IsRebased, IsRead, IsDropped, IsExecuted, IsRetired, IsRestarted, IsSame}
 use Rattle.lpt_c_end.specs.Contents.{memories_of}
 use Rattle.lpt_c_end.specs.Keeping.{IsResumed, ReadsAsRestarted}
-use Rattle.lpt_c_end.specs.Refusals.{open_refusal, part_refusal, plain_refusal, finish_refusal, sent_refusal, expire_refusal, give_up_refusal, tick_refusal, rebase_refusal, read_refusal, execute_refusal}
+use Rattle.lpt_c_end.specs.Refusals.{open_refusal, part_refusal, plain_refusal, finish_refusal, sent_refusal, expire_refusal, give_up_refusal, tick_refusal, rebase_refusal, read_refusal, drop_refusal, execute_refusal}
+use Rattle.lpt_c_end.specs.Refusing.{IsRefusedAs, refuse_refusal}
 use Rattle.lpt_c_end.specs.Sizes.{kept_as, IsResumedSized}
 use Rattle.lpt_c_end.specs.Words.{direction_from as direction_by}
 use Rattle.lpt_c_end.specs.declared.end.End.{End}
@@ -35,6 +36,8 @@ use Rattle.lpt_node.specs.Jobs.{FrontHolds}
 use Rattle.lpt_node.specs.Nodes.{NodeData, direction_from}
 use Rattle.lpt_node.specs.Restarts.{name_state}
 use Rattle.lpt_model.specs.Tickets.{no_tickets}
+use Rattle.lpt_pus.specs.Codes.{number_of}
+use Rattle.lpt_pus.specs.declared.failure_code.FailureCode.{FailureCode}
 use Rattle.lpt_state.specs.Spellings.{state_spelled}
 
 -- ---- ends
@@ -74,10 +77,9 @@ pub record AreEndsOf (c : Config) (p : Pair) (on_ground on_craft : End) : Type 0
 
 -- A call of an end, as `include/lpt_end.h` has them; a name is freed in a direction, by its number,
 -- also one that is free. An end is restored from its state, in place of the one that its program
--- had. A call fails if it answers another status than 0, as the last `lpt_end_read` of a loop does;
--- `lpt_end_name` counts as one, since it changes nothing either.
---
--- Assumed: A C program never calls `lpt_end_drop`, `lpt_end_drop_read` or `lpt_end_refuse`.
+-- had. The oldest request of all is dropped before or after it was read. A call fails if it answers
+-- another status than 0, as the last `lpt_end_read` of a loop does; `lpt_end_name` counts as one,
+-- since it changes nothing either.
 pub data Call : Type 0 where
   Open : Name → (message : List ℕ) → Call
   Part : Name → (k : ℕ) → Call
@@ -92,6 +94,9 @@ pub data Call : Type 0 where
   Read : Call
   Execute : Call
   ExecuteGiven : (octets : List ℕ) → Call
+  Drop : Call
+  DropRead : Call
+  Refuse : FailureCode → Call
   Retire : (direction : ℕ) → Name → Call
   RetireFree : (direction : ℕ) → Name → Call
   Restart : Call
@@ -118,6 +123,10 @@ IsDone Read e new = (read_refusal e ≡ None) × IsRead e new
 IsDone Execute e new = (execute_refusal e ≡ None) × IsExecuted e new
 IsDone (ExecuteGiven octets) e new =
     (given_refusal octets e ≡ None) × IsExecutedGiven octets e new
+IsDone Drop e new = (drop_refusal e ≡ None) × IsDropped e new
+IsDone DropRead e new = (drop_read_refusal e ≡ None) × IsDropped e new
+IsDone (Refuse code) e new =
+    (refuse_refusal (number_of code) e ≡ None) × IsRefusedAs code e new
 IsDone (Retire direction name) e new = IsRetired direction name e new
 IsDone (RetireFree direction name) e new = IsRetired direction name e new
 IsDone Restart e new = IsRestarted e new
@@ -148,8 +157,11 @@ moves side (GiveUp name) = Do (step.Expire side (Some name)) ∷ []
 moves side Tick = Do (step.Tick side On) ∷ []
 moves side (Rebase ticks) = Do (step.Tick side (Back ticks)) ∷ []
 moves side Read = Do (step.Commit W1) ∷ Do (step.Claim W1) ∷ []
-moves side Execute = Do step.Apply ∷ []
-moves side (ExecuteGiven octets) = Do step.Apply ∷ []
+moves side Execute = Do (step.Apply act.Execute) ∷ []
+moves side (ExecuteGiven octets) = Do (step.Apply act.Execute) ∷ []
+moves side Drop = Do (step.Apply act.Drop) ∷ Do (step.Commit W1) ∷ Do (step.Claim W1) ∷ []
+moves side DropRead = Do (step.Apply act.Drop) ∷ []
+moves side (Refuse code) = Do (step.Apply (act.Refuse code)) ∷ []
 moves side (Retire direction name) = freeing side (direction_by direction) name ∷ []
 moves side (RetireFree direction name) = []
 moves side Restart = Do (step.Restart side) ∷ []
@@ -202,6 +214,9 @@ Promises c p g k side Read = ⊤
 Promises c p g k side Execute = ⊤
 Promises c p g k side (ExecuteGiven octets) =
     FrontHolds (head_of (end_of side g k).node.at.jobs.jobs) p.ends.memories octets
+Promises c p g k side Drop = ⊤
+Promises c p g k side DropRead = ⊤
+Promises c p g k side (Refuse code) = ⊤
 Promises c p g k side (Retire direction name) =
     CanMove c p (freeing side (direction_by direction) name)
     × NoneWaits p.ends (direction_by direction) name g k

@@ -11,7 +11,7 @@ use Rattle.lpt_c_end.specs.declared.accessing.LptAccess.{LptAccess}
 use Rattle.lpt_c_end.specs.declared.end.End.{End}
 use Rattle.lpt_c_end.specs.declared.memories.LptMemory.{LptMemory}
 use Rattle.lpt_c_end.specs.declared.sizing.LptSize.{LptSize}
-use Rattle.lpt_c_pair.specs.Pairs.{Call, ExecuteGiven, IsDone, Restart, Resume, ResumeSized}
+use Rattle.lpt_c_pair.specs.Pairs.{Call, Drop, DropRead, ExecuteGiven, IsDone, Refuse, Restart, Resume, ResumeSized}
 use Rattle.lpt_c_pair.specs.Runs.{CallTurn, Standing, standing_begun, turned_by, CanTurnBy, KeepsThePromise}
 use Rattle.lpt_events.specs.Configs.{IsConfig}
 use Rattle.lpt_events.specs.declared.config.Config.{Config}
@@ -51,45 +51,66 @@ AreTold number (t ∷ ts) e = IsTold number t e × AreTold (number + 1) ts e
 
 -- Two ends behind handles, and the memories that the spacecraft's program has. It has written
 -- something ahead: what the oldest request asks for, which isn't executed yet. And it owes
--- something: what executed requests ask for, and what it hasn't written whole.
+-- something: what executed requests ask for, and what it hasn't written whole. Before the first
+-- write ahead the memories stood like this.
 pub record Program : Type 0 where
   pub ends : Standing
   pub memories : Contents
   pub ahead : List ToldWrite
   pub owed : List ToldWrite
+  pub stood : Contents
 
 -- A call of an end answered 0; a write that the oldest request asks for is made ahead;
 -- `lpt_end_execute_given` answered 0, after which these writes are owed; memories became these,
--- as some of what is owed was written; all that is owed was written, in its order.
+-- as some of what is owed was written; all that is owed was written, in its order; or what stood
+-- where something was written ahead is put back.
 pub data Act : Type 0 where
   Calls : CallTurn → Act
   Writes : ToldWrite → Act
   Gives : (octets : List ℕ) → (owed : List ToldWrite) → (new : End) → Act
   Puts : (memories : Contents) → Act
   Settles : Act
+  TakesBack : Act
+
+-- what stood there, if this was written ahead over it, or these memories if nothing was
+abbrev pub stood_by : List ToldWrite → (memories stood : Contents) → Contents
+stood_by [] ms stood = ms
+stood_by (t ∷ ts) ms stood = stood
 
 -- what an act makes of them
 abbrev pub program_after : Config → Program → Act → Program
 program_after c p (Calls t) = record p { ends = turned_by c p.ends t.side t.call t.new }
 program_after c p (Writes t) =
-    record p { memories = put_told (t ∷ []) p.memories; ahead = p.ahead ++ t ∷ [] }
+    record p {
+      memories = put_told (t ∷ []) p.memories;
+      ahead = p.ahead ++ t ∷ [];
+      stood = stood_by p.ahead p.memories p.stood;
+    }
 program_after c p (Gives octets owed new) = record {
   ends = turned_by c p.ends Craft (ExecuteGiven octets) new;
   memories = p.memories;
   ahead = [];
   owed = owed;
+  stood = p.stood;
 }
 program_after c p (Puts ms) = record p { memories = ms }
 program_after c p Settles = record p { memories = put_told p.owed p.memories; owed = [] }
+program_after c p TakesBack =
+    record p { memories = stood_by p.ahead p.memories p.stood; ahead = [] }
 
--- Requests are executed by an act of their own. If the spacecraft's end is restarted or made
--- again, nothing was written ahead; what is owed is known still.
+-- Requests are executed by an act of their own. If one is dropped or refused, or if the
+-- spacecraft's end is restarted or made again, nothing was written ahead, or it was put back; what
+-- is owed is known still.
 --
 -- Assumed: A C program that has the memories itself makes each write that it is told, whole, before
--- it executes another request, gives each execution the octets that stand there, and restarts its
--- end only when nothing is written ahead.
+-- it executes another request, gives each execution the octets that stand there, puts back what it
+-- wrote of a request before it drops or refuses it, and restarts its end only when nothing is
+-- written ahead.
 abbrev pub MayCall : Program → Side → Call → Type 0
 MayCall p side (ExecuteGiven octets) = ⊥
+MayCall p Craft Drop = p.ahead ≡ []
+MayCall p Craft DropRead = p.ahead ≡ []
+MayCall p Craft (Refuse code) = p.ahead ≡ []
 MayCall p Craft Restart = p.ahead ≡ []
 MayCall p Craft (Resume config state ms content) = p.ahead ≡ []
 MayCall p Craft (ResumeSized config state sizes) = p.ahead ≡ []
@@ -100,8 +121,9 @@ MayCall p side call = ⊤
 -- have where it reads.
 --
 -- Assumed: A C program that has the memories itself makes each write that it is told, whole, before
--- it executes another request, gives each execution the octets that stand there, and restarts its
--- end only when nothing is written ahead.
+-- it executes another request, gives each execution the octets that stand there, puts back what it
+-- wrote of a request before it drops or refuses it, and restarts its end only when nothing is
+-- written ahead.
 pub record IsGiven (p : Program) (octets : List ℕ) (owed : List ToldWrite) : Type 0 where
   pub settled : p.owed ≡ []
   pub told : AreTold (length p.ahead) owed p.ends.on_craft
@@ -121,6 +143,7 @@ CanAct c p (Gives octets owed new) =
     IsDone (ExecuteGiven octets) p.ends.on_craft new × IsGiven p octets owed
 CanAct c p (Puts ms) = put_told p.owed ms ≡ put_told p.owed p.memories
 CanAct c p Settles = ⊤
+CanAct c p TakesBack = ⊤
 
 -- after these acts, the newest of which stands first
 abbrev pub came_by : Config → Program → List Act → Program
@@ -139,7 +162,13 @@ abbrev pub program_started : Config → Contents → (ticks_ground : ℕ) → (o
     → (on_ground on_craft : End)
     → Program
 program_started c first a b g k =
-    record { ends = standing_begun c first a b g k; memories = first; ahead = []; owed = [] }
+    record {
+      ends = standing_begun c first a b g k;
+      memories = first;
+      ahead = [];
+      owed = [];
+      stood = first;
+    }
 
 -- The ends keep the promise. The program's memories, once what is owed is written, are their first
 -- content, changed by the executed requests in order of release, and by what was written ahead.

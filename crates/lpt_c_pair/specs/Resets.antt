@@ -12,7 +12,7 @@ use Rattle.lpt_c_end.specs.declared.end.End.{End}
 use Rattle.lpt_c_end.specs.declared.memories.LptMemory.{LptMemory}
 use Rattle.lpt_c_end.specs.declared.sizing.LptSize.{LptSize}
 use Rattle.lpt_c_pair.specs.Pairs.{Resume, ResumeSized}
-use Rattle.lpt_c_pair.specs.Programs.{Act, Calls, Gives, KeepsItsMemories, Program, Puts, Settles, ToldWrite, Writes, came_by, put_told, program_started, CanAct, CanActAll}
+use Rattle.lpt_c_pair.specs.Programs.{Act, Calls, Gives, KeepsItsMemories, Program, Puts, Settles, TakesBack, ToldWrite, Writes, came_by, put_told, program_started, stood_by, CanAct, CanActAll}
 use Rattle.lpt_c_pair.specs.Withheld.{moves_of, turns_of}
 use Rattle.lpt_events.specs.Configs.{IsConfig}
 use Rattle.lpt_events.specs.declared.config.Config.{Config}
@@ -29,6 +29,7 @@ pub record Machines : Type 0 where
   pub memories : Contents
   pub ahead : List ToldWrite
   pub owed : List ToldWrite
+  pub stood : Contents
 
 -- those of a run
 abbrev pub machines_of : Program → Machines
@@ -38,6 +39,7 @@ machines_of p = record {
   memories = p.memories;
   ahead = p.ahead;
   owed = p.owed;
+  stood = p.stood;
 }
 
 -- the end of a side became this
@@ -49,10 +51,16 @@ with_end m Craft e = record m { on_craft = e }
 abbrev pub machines_after : Machines → Act → Machines
 machines_after m (Calls t) = with_end m t.side t.new
 machines_after m (Writes t) =
-    record m { memories = put_told (t ∷ []) m.memories; ahead = m.ahead ++ t ∷ [] }
+    record m {
+      memories = put_told (t ∷ []) m.memories;
+      ahead = m.ahead ++ t ∷ [];
+      stood = stood_by m.ahead m.memories m.stood;
+    }
 machines_after m (Gives octets owed new) = record m { on_craft = new; ahead = []; owed = owed }
 machines_after m (Puts ms) = record m { memories = ms }
 machines_after m Settles = record m { memories = put_told m.owed m.memories; owed = [] }
+machines_after m TakesBack =
+    record m { memories = stood_by m.ahead m.memories m.stood; ahead = [] }
 
 -- whose program does an act
 abbrev pub actor : Act → Side
@@ -61,6 +69,7 @@ actor (Writes t) = Craft
 actor (Gives octets owed new) = Craft
 actor (Puts ms) = Craft
 actor Settles = Craft
+actor TakesBack = Craft
 
 -- ---- what is kept, and what is deleted
 
@@ -140,6 +149,7 @@ lived_after c start l (ResetsCraft config state sizes ms new) = record l {
     memories = ms;
     ahead = [];
     owed = (came_by c start l.but_craft).owed;
+    stood = (came_by c start l.but_craft).stood;
   };
   acts = again_craft config state sizes new ∷ Puts ms ∷ l.but_craft;
   but_ground = again_craft config state sizes new ∷ Puts ms ∷ l.but_both;

@@ -1,9 +1,7 @@
 -- Two ends behind handles withhold nothing that came whole.
 use Rattle.std.specs.Prelude.{◌≡◌, ℕ, List, [], ◌∷◌, ◌++◌}
 use Rattle.lpt_apart.specs.Clocks.{later, no_pair_later, Own, own_config}
-use Rattle.lpt_apart.specs.Drops.{no_service}
 use Rattle.lpt_apart.specs.Moves.{Move}
-use Rattle.lpt_apart.specs.Uploads.{came_with, WithholdsNoRequest}
 use Rattle.lpt_apart.specs.Whole.{came_since, WithholdsNothing}
 use Rattle.lpt_c_end.specs.Changes.{IsNew}
 use Rattle.lpt_c_end.specs.Contents.{memories_told}
@@ -11,11 +9,9 @@ use Rattle.lpt_c_end.specs.Sizes.{sizes_said, IsNewSized}
 use Rattle.lpt_c_end.specs.declared.end.End.{End}
 use Rattle.lpt_c_end.specs.declared.memories.LptMemory.{LptMemory}
 use Rattle.lpt_c_end.specs.declared.sizing.LptSize.{LptSize}
-use Rattle.lpt_c_pair.specs.Keepers as keeper
 use Rattle.lpt_c_pair.specs.Pairs.{ExecuteGiven, moves}
-use Rattle.lpt_c_pair.specs.Programs.{Act, Calls, Writes, Gives, Puts, Settles, program_started, came_by, CanActAll}
+use Rattle.lpt_c_pair.specs.Programs.{Act, Calls, Writes, Gives, Puts, Settles, TakesBack, program_started, came_by, CanActAll}
 use Rattle.lpt_c_pair.specs.Runs.{CallTurn, standing_begun, stood, CanStand}
-use Rattle.lpt_c_pair.specs.Services.{ServiceDeed, CanServeAll, no_serving, served_all, turns_of as turns_by_deeds}
 use Rattle.lpt_events.specs.Configs.{IsConfig}
 use Rattle.lpt_events.specs.declared.config.Config.{Config}
 use Rattle.lpt_events.specs.declared.side.Side.TheVariants.{Ground, Craft}
@@ -35,6 +31,7 @@ turns_of (Gives octets owed new ∷ xs) =
     record { side = Craft; call = ExecuteGiven octets; new = new } ∷ turns_of xs
 turns_of (Puts ms ∷ xs) = turns_of xs
 turns_of (Settles ∷ xs) = turns_of xs
+turns_of (TakesBack ∷ xs) = turns_of xs
 
 -- Whatever calls were made of two ends that were new: what was last opened under a name, and each
 -- part of which `lpt_end_packet` took since then, and since its receiver was last restarted or made
@@ -68,39 +65,3 @@ ProgramsWithholdNothing =
     → CanActAll c (program_started c first a b g k) xs
     → WithholdsNothing c (came_by c (program_started c first a b g k) xs).ends.pair.ends.log
     (came_since c (no_pair_later c first a b) (moves_of (turns_of xs)))
-
--- ---- if requests are dropped
-
--- Whatever calls were made of two ends that were new, drops among them: what was last opened
--- upwards under a name, and each part of which `lpt_end_packet` took since then, and since the
--- spacecraft was last restarted or made again, was released since, unless there was no room, or
--- its reception expired or was broken off.
-abbrev pub EndsOfCThatDropWithholdNoRequest : Type 0
-EndsOfCThatDropWithholdNoRequest =
-    (c : Config) (a : ℕ) (b : Own)
-    (none : List LptMemory) (nothing : List ℕ) (ms : List LptMemory) (content : List ℕ)
-    (g k : End) (xs : List ServiceDeed)
-    → IsConfig (later a c)
-    → IsConfig (own_config b c)
-    → IsNew Ground (later a c) none nothing g
-    → IsNew Craft (own_config b c) ms content k
-    → CanServeAll c (no_serving c (memories_told content ms) a b g k) xs
-    → WithholdsNoRequest c
-    (served_all c (no_serving c (memories_told content ms) a b g k) xs).service.pair.ends.log
-    (came_with c (no_service c (memories_told content ms) a b) (turns_by_deeds xs))
-
--- the same if the spacecraft's program has the memories
-abbrev pub ProgramsThatDropWithholdNoRequest : Type 0
-ProgramsThatDropWithholdNoRequest =
-    (c : Config) (a : ℕ) (b : Own)
-    (none : List LptMemory) (nothing : List ℕ) (sizes : List LptSize) (first : Contents)
-    (g k : End) (xs : List keeper.KeeperAct)
-    → IsConfig (later a c)
-    → IsConfig (own_config b c)
-    → sizes_said sizes ≡ sizes_of first
-    → IsNew Ground (later a c) none nothing g
-    → IsNewSized (own_config b c) sizes k
-    → keeper.CanKeepAll c (keeper.new_keeper c first a b g k) xs
-    → WithholdsNoRequest c
-    (keeper.kept_all c (keeper.new_keeper c first a b g k) xs).serving.service.pair.ends.log
-    (came_with c (no_service c first a b) (turns_by_deeds (keeper.deeds_of xs)))

@@ -1,21 +1,16 @@
 //! What ties calls of C to two ends apart: functions with empty bodies.
 
 ghost use Rattle.lpt_c_pair.specs.Answers.{ZeroIsAlwaysDone};
-ghost use Rattle.lpt_c_pair.specs.Drops.{DroppedIsPassedOver, DropsOldest, GivenIsPassedOver};
 ghost use Rattle.lpt_c_pair.specs.Handed.{ExecutionsAreTold, GivenExecutionsAreTold, MessagesAreHanded, MessagesStay};
 ghost use Rattle.lpt_c_pair.specs.Histories.{CarefulProgramsMayBeReset, ResetEndsOfCKeepThePromise, SendingsLeaveTheState};
-ghost use Rattle.lpt_c_pair.specs.Keepers.{ProgramsThatDropServe};
 ghost use Rattle.lpt_c_pair.specs.Loads.{LoadsGoWhereTheySay};
-ghost use Rattle.lpt_c_pair.specs.Outages.{ResetProgramsThatDropServe};
 ghost use Rattle.lpt_c_pair.specs.Pairs.{CallsAreMoves};
-ghost use Rattle.lpt_c_pair.specs.Pasts.{ResetEndsThatDropServe};
 ghost use Rattle.lpt_c_pair.specs.Programs.{ProgramsKeepTheirMemories};
 ghost use Rattle.lpt_c_pair.specs.Redo.{WritesCanBeMadeAgain, WritesCanBeTakenBack};
 ghost use Rattle.lpt_c_pair.specs.Resets.{CarefulMachinesMayBeReset, ResetProgramsKeepTheirMemories};
 ghost use Rattle.lpt_c_pair.specs.Runs.{EndsOfCKeepThePromise};
-ghost use Rattle.lpt_c_pair.specs.Services.{DroppedStaysDropped, EndsOfCThatDropServe, GivenStaysDropped};
 ghost use Rattle.lpt_c_pair.specs.Ticks.{ManyTicksAreTicks};
-ghost use Rattle.lpt_c_pair.specs.Withheld.{EndsOfCThatDropWithholdNoRequest, EndsOfCWithholdNothing, ProgramsThatDropWithholdNoRequest, ProgramsWithholdNothing};
+ghost use Rattle.lpt_c_pair.specs.Withheld.{EndsOfCWithholdNothing, ProgramsWithholdNothing};
 
 /// If two ends behind handles are those of two ends apart, and one of them is called, answers 0,
 /// and the program keeps what it promises of that call, then its moves can happen, and the ends are
@@ -33,7 +28,8 @@ pub fn calls_are_moves()
 ///
 /// It is the same if its program has the memories: those are its own, and what it writes over them
 /// is what `lpt_end_access` and `lpt_end_access_octets` told it. If it wrote something ahead of an
-/// execution, that stands over them besides; if it owes something, it is missing.
+/// execution, that stands over them besides; if it owes something, it is missing. Before it drops
+/// or refuses a request it puts back what it wrote ahead for it.
 pub fn ends_of_c_keep_the_promise()
     ensures in_end { EndsOfCKeepThePromise }
     ensures with_program { ProgramsKeepTheirMemories }
@@ -42,12 +38,10 @@ pub fn ends_of_c_keep_the_promise()
 /// Such ends withhold nothing that came whole. Take what was last opened under a name. If
 /// `lpt_end_packet` took each of its parts since then, and since its receiver was last restarted or
 /// made again, while there was room, it was released since, unless its reception expired or was
-/// broken off. If the spacecraft's program drops requests, this is said of what goes up.
+/// broken off.
 pub fn ends_of_c_withhold_nothing()
     ensures in_end { EndsOfCWithholdNothing }
     ensures with_program { ProgramsWithholdNothing }
-    ensures dropping { EndsOfCThatDropWithholdNoRequest }
-    ensures own_dropping { ProgramsThatDropWithholdNoRequest }
 {}
 
 /// Ends withhold nothing and keep the promise whenever a machine is reset, once or again and again,
@@ -105,37 +99,6 @@ pub fn many_ticks_are_calls()
 /// If a call answers 0, its end didn't refuse it: no refusal has the number 0.
 pub fn zero_is_done()
     ensures { ZeroIsAlwaysDone }
-{}
-
-/// A request that is dropped is never executed. Its drop puts a message of no octets in the place
-/// of the oldest request that waited, and changes nothing else. If that is the oldest of all,
-/// executing it discards it: no memory changes, and no packet is made. So it is after whatever
-/// calls of ends that drop requests, once its place comes to the front.
-pub fn dropped_is_never_executed()
-    ensures drop { DropsOldest }
-    ensures execute { DroppedIsPassedOver }
-    ensures given { GivenIsPassedOver }
-    ensures at_last { DroppedStaysDropped }
-    ensures given_at_last { GivenStaysDropped }
-{}
-
-/// A program that serves other services drops their requests, and keeps this. Take two new ends, of
-/// which the spacecraft's has its memories, and any list of calls of them that answered 0,
-/// `lpt_end_drop`, `lpt_end_drop_read` and `lpt_end_refuse` among them, the programs keeping what
-/// they promise. Then the ends are two ends apart. Each request that was released is one that
-/// ground asked, or the message last opened under its name. The spacecraft's memories are their
-/// first content, changed by the executed requests in order of release, and none that was dropped
-/// or refused is among these.
-///
-/// So it is too if its program has the memories. It may put back what it wrote ahead of a request
-/// that it then drops or refuses. And so it is of what is left if either machine is reset, once or
-/// again and again, wherever the memories are, as `resets_keep_the_promise` says it of ends that
-/// drop nothing.
-pub fn ends_of_c_that_drop_serve()
-    ensures in_end { EndsOfCThatDropServe }
-    ensures with_program { ProgramsThatDropServe }
-    ensures reset { ResetEndsThatDropServe }
-    ensures own_reset { ResetProgramsThatDropServe }
 {}
 
 /// A load that is executed, once it is the oldest request of all, is carried out or refused. If

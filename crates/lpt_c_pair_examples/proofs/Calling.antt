@@ -14,7 +14,8 @@ use Rattle.lpt_events.specs.declared.side.Side.TheVariants.{Ground, Craft}
 use Rattle.lpt_execution.specs.Reporting.{request_source}
 use Rattle.lpt_jobs.specs.declared.job.Job.TheVariants.{Committed, Waiting}
 use Rattle.lpt_node.specs.Nodes.{no_data}
-use Rattle.lpt_apart.specs.Facts.{Asked, Executed, Released, Restarted}
+use Rattle.lpt_acts.specs.Acts as act
+use Rattle.lpt_apart.specs.Facts.{Asked, Left, Released, Restarted}
 use Rattle.lpt_apart.specs.Steps.{with_report}
 use Rattle.lpt_c_end.specs.Changes.{IsNew}
 use Rattle.lpt_c_end.specs.Contents.{memories_told}
@@ -157,7 +158,7 @@ calls_can_be g k new_g new_k = record {
   again = again g k new_g new_k;
   can = takes_it g k new_g new_k;
   log = λ i.
-      Restarted Craft ∷ Executed
+      Restarted Craft ∷ Left act.Execute
       ∷ with_report (Released None load_packet ∷ Asked load_packet ∷ [])
       (opens_nothing (least_free_in (no_data usual).sending.ledger
       (request_source 100 load_packet)) i);

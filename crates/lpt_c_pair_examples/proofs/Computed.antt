@@ -12,6 +12,7 @@ use Rattle.lpt_packet.specs.Checksums.{checksum, octets_in, shift_all}
 use Rattle.lpt_packet.specs.Packets.{packet_seen, spelling}
 use Rattle.lpt_pus.specs.Commands.{tc_field, tc_verdict, command_in}
 use Rattle.lpt_pus.specs.Telemetry.{tm_field, tm_verdict}
+use Rattle.lpt_pus.specs.declared.failure_code.FailureCode.TheVariants.{OutOfRange}
 use Rattle.lpt_part.specs.Parts.{body_of, part_verdict}
 use Rattle.lpt_memory.specs.Meanings.{Load, body_meaning, meaning}
 use Rattle.lpt_memory.specs.Readings.{Source, source_meaning}
@@ -21,8 +22,9 @@ use Rattle.lpt_events.specs.Arrivals.{ARequest, arrival}
 use Rattle.lpt_events.specs.declared.side.Side.TheVariants.{Craft}
 use Rattle.lpt_jobs.specs.declared.job.Job.{Job}
 use Rattle.lpt_jobs.specs.declared.job.Job.TheVariants.{Committed}
-use Rattle.lpt_execution.specs.Reporting.{opened_of, request_source}
-use Rattle.lpt_node.specs.Jobs.{job_executed, executed_given, with_opened}
+use Rattle.lpt_execution.specs.Reporting.{message_reports, opened_of, request_source}
+use Rattle.lpt_execution.specs.declared.ending.Ending.TheVariants.{Refused}
+use Rattle.lpt_node.specs.Jobs.{Execution, job_executed, executed_given, refused_front, reports_made, with_opened}
 use Rattle.lpt_packet.specs.Names.{Name}
 use Rattle.lpt_node.specs.Nodes.{NodeData, no_data}
 use Rattle.lpt_node.specs.Requests.{plain_made}
@@ -49,10 +51,6 @@ with_jobs first jobs = record (no_data usual) { jobs = record { first = first; j
 -- the request, once it was read
 abbrev pub source : Source
 source = record { apid = 100; sizes = (1, 256) ∷ []; message = load_packet }
-
--- what is read in the place of a request that was dropped
-abbrev pub nothing : Source
-nothing = record { apid = 100; sizes = (1, 256) ∷ []; message = [] }
 
 pub means : source_meaning source
     ≡ Load 1 (record { address = 16; octets = 171 ∷ 205 ∷ 239 ∷ 1 ∷ [] } ∷ [])
@@ -112,26 +110,30 @@ unfolding packet_seen spelling checksum octets_in shift_all tc_field tc_verdict 
     front_load_area front_head request_in body_meaning meaning
 loads first = refl
 
--- a dropped request is passed over
-pub passes : (jobs : List Job)
-    → (job_executed usual (with_jobs 0 (Committed nothing ∷ jobs)) usual_memories).0.0
-    ≡ with_jobs 1 jobs
-unfolding packet_seen spelling command_in meaning
-passes jobs =
-    opens_none (with_jobs 1 jobs)
-    (least_free_in (with_jobs 0 (Committed nothing ∷ jobs)).sending.ledger
-    (request_source 100 []))
+-- it is refused
+abbrev pub refusal : (first : ℕ) → NodeData × Execution
+refusal first = refused_front usual (with_jobs first (Committed source ∷ [])) OutOfRange
 
-pub passes_quietly : (jobs : List Job)
-    → (job_executed usual (with_jobs 0 (Committed nothing ∷ jobs)) usual_memories).0.1.packets ≡ []
-unfolding packet_seen spelling command_in meaning
-passes_quietly jobs = refl
+-- the node then, whose report was counted
+abbrev pub behind_refusal : (first : ℕ) → NodeData
+behind_refusal first =
+    record (with_jobs first []) {
+      sending =
+          reports_made (no_data usual).sending
+          (message_reports 100 load_packet (Refused OutOfRange));
+    }
 
-pub passes_over : (jobs : List Job)
-    → (job_executed usual (with_jobs 0 (Committed nothing ∷ jobs)) usual_memories).1
-    ≡ usual_memories
-unfolding packet_seen spelling command_in meaning
-passes_over jobs = refl
+pub refuses : (first : ℕ) → (refusal first).0 ≡ behind_refusal (first + 1)
+unfolding packet_seen spelling checksum octets_in shift_all tc_field tc_verdict command_in first_of_numbers
+refuses first =
+    opens_none (behind_refusal (first + 1))
+    (least_free_in (with_jobs first (Committed source ∷ [])).sending.ledger
+    (request_source 100 load_packet))
+
+-- it makes one report
+pub refuses_loudly : (first : ℕ) → length (refusal first).1.packets ≡ 1
+unfolding packet_seen spelling checksum octets_in shift_all tc_field tc_verdict command_in first_of_numbers
+refuses_loudly first = refl
 
 -- ---- states
 

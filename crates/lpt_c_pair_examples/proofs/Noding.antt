@@ -21,8 +21,9 @@ use Rattle.lpt_execution.specs.Reporting.{request_source}
 use Rattle.lpt_node.specs.Nodes.{NodeData, is_open, no_data}
 use Rattle.lpt_node.specs.Restarts.{NoneOpen}
 use Rattle.lpt_state.specs.Lastings.{AreRuns, IsBoundAlike, IsEnd}
+use Rattle.lpt_acts.specs.Acts as act
 use Rattle.lpt_apart.specs.Clocks.{CanAll, after_all}
-use Rattle.lpt_apart.specs.Facts.{Asked, Executed, Released, Restarted}
+use Rattle.lpt_apart.specs.Facts.{Asked, Left, Released, Restarted}
 use Rattle.lpt_apart.specs.Moves.{CanMove, Do}
 use Rattle.lpt_apart.specs.Steps.{Accept, with_report}
 use Rattle.lpt_apart_kept.specs.Deeds.{CanDoAll, end_of}
@@ -165,7 +166,7 @@ nodes_can_be = record {
   reset = resets;
   left = refl;
   log = λ i.
-      Restarted Craft ∷ Executed
+      Restarted Craft ∷ Left act.Execute
       ∷ with_report (Released None load_packet ∷ Asked load_packet ∷ [])
       (opens_nothing (least_free_in (no_data usual).sending.ledger
       (request_source 100 load_packet)) i);

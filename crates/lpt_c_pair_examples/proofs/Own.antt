@@ -1,5 +1,5 @@
 -- The ends of worked runs whose spacecraft's end has its memory.
-use Rattle.std.proofs.Common.{◌≡◌, ◌∙◌, ap, sym, subst, refl, ℕ, ◌+◌, List, [], ◌∷◌, Some, None, arith}
+use Rattle.std.proofs.Common.{◌≡◌, ◌∙◌, ap, sym, subst, refl, ℕ, ◌+◌, List, [], ◌∷◌, None}
 use Rattle.lpt_events.specs.declared.side.Side.{Side}
 use Rattle.lpt_events.specs.declared.side.Side.TheVariants.{Craft}
 use Rattle.lpt_jobs.specs.declared.job.Job.{Job}
@@ -16,12 +16,12 @@ use Rattle.lpt_c_end.specs.Refusals.{sending_refusal}
 use Rattle.lpt_c_end.specs.declared.end.End.{End}
 use Rattle.lpt_c_end.specs.declared.kept.Kept.{Kept}
 use Rattle.lpt_c_end.specs.declared.kept.Kept.TheVariants.{Here}
-use Rattle.lpt_c_pair.specs.Pairs.{IsDone, IsKept, Execute, Resume, Tick}
+use Rattle.lpt_c_pair.specs.Pairs.{IsDone, IsKept, Execute, Resume}
 use Rattle.lpt_c_pair_examples.specs.Called.{content, loaded_content, memory}
-use Rattle.lpt_c_pair_examples.proofs.Computed.{executes, executes_quietly, loads, nothing, passes, passes_over, passes_quietly, source, with_jobs}
-use Rattle.lpt_c_pair_examples.proofs.Making.{made, made_over}
+use Rattle.lpt_c_pair_examples.proofs.Computed.{executes, executes_quietly, loads, source, with_jobs}
+use Rattle.lpt_c_pair_examples.proofs.Making.{made_over}
 use Rattle.lpt_c_pair_examples.proofs.Stages.{AreRead, again_end, craft_end, is_kept, is_ready, none_read, resumes}
-use Rattle.lpt_journal_examples.specs.Passes.{load_packet, loaded_memories, usual, usual_memories}
+use Rattle.lpt_journal_examples.specs.Passes.{loaded_memories, usual, usual_memories}
 
 -- the memory as it was first, and with the load
 abbrev pub first_kept : Kept
@@ -60,26 +60,6 @@ module _ (k : End) (new_k : IsNew Craft usual memory content k) where
   again_behind first jobs all =
       again_end last_kept refl (λ code. refl) with_load is_with_load first jobs all
 
-  -- an end with the load, a tick later
-  abbrev pub ticked_behind : (first : ℕ) (jobs : List Job) → AreRead jobs → End
-  ticked_behind first jobs all =
-      made with_load (record (with_jobs first jobs) { clock = 1 }) (Some load_packet) []
-      (omega arith)
-      (is_ready (record k.node { at = record (with_jobs first jobs) { clock = 1 } }) last_kept
-      (ap (λ (n : NodeView). n.config) new_k.node) refl all)
-
-  pub ticks : (first : ℕ) (jobs : List Job) (all : AreRead jobs)
-      → IsDone Tick (behind first jobs all) (ticked_behind first jobs all)
-  ticks first jobs all = (
-    refl,
-    record {
-      node = refl;
-      released = refl;
-      outbox = refl;
-      fixed = record { side = refl; config = refl; memories = refl };
-    },
-  )
-
   -- ---- executions
 
   -- an execution over the memory as it was
@@ -87,29 +67,6 @@ module _ (k : End) (new_k : IsNew Craft usual memory content k) where
       → execution_by k.config k.memories d
       ≡ ((job_executed usual d usual_memories).0, Here (job_executed usual d usual_memories).1)
   over d = λ i. execution_by (new_k.config i) (new_k.memories i) d
-
-  -- the place of a dropped request is passed over
-  pub passes_it : (jobs : List Job) (was : AreRead (Committed nothing ∷ jobs)) (all : AreRead jobs)
-      → IsDone Execute (before 0 (Committed nothing ∷ jobs) was) (before 1 jobs all)
-  passes_it jobs was all =
-      let d : NodeData = with_jobs 0 (Committed nothing ∷ jobs) in (
-        (λ i. here_refusal (new_k.memories i)
-            (sending_refusal (node_code (refusal_apply d)) [])),
-        record {
-          node =
-              sym (ap (λ (x : (NodeData × Execution) × Kept). x.0.0) (over d) ∙ passes jobs);
-          memories =
-              new_k.memories
-              ∙ sym (ap (λ (x : (NodeData × Execution) × Kept). x.1) (over d)
-              ∙ ap Here (passes_over jobs));
-          outbox =
-              sym (ap (λ (x : (NodeData × Execution) × Kept). x.0.1.packets) (over d)
-              ∙ passes_quietly jobs);
-          released = refl;
-          side = refl;
-          config = refl;
-        },
-      )
 
   -- the load is executed
   pub executes_it : (first : ℕ) (was : AreRead (Committed source ∷ []))

@@ -25,15 +25,15 @@ use Rattle.lpt_state.specs.Lastings.{IsEnd}
 use Rattle.lpt_state.specs.Spellings.{state_spelled}
 use Rattle.lpt_state.specs.Verdicts.{reading}
 use Rattle.lpt_state.proofs.LawLemmas.{written_is_read}
-use Rattle.lpt_c_end.specs.Changes.{IsDropped, IsNew, IsNewWith, delivery, read_as, read_as_by, read_by, read_over}
+use Rattle.lpt_c_end.specs.Changes.{IsNew, IsNewWith, delivery, read_by, read_over}
 use Rattle.lpt_c_end.specs.Codes.{node_code}
 use Rattle.lpt_c_end.specs.Keeping.{IsResumedWith}
 use Rattle.lpt_c_end.specs.Kept.{memories_refusal, sizes_in}
 use Rattle.lpt_c_end.specs.Ready.{IsReading, IsReady}
-use Rattle.lpt_c_end.specs.Refusals.{ground_refusal, read_refusal}
+use Rattle.lpt_c_end.specs.Refusals.{ground_refusal}
 use Rattle.lpt_c_end.specs.declared.end.End.{End}
 use Rattle.lpt_c_end.specs.declared.kept.Kept.{Kept}
-use Rattle.lpt_c_pair.specs.Pairs.{IsDone, IsKept, Packet, Plain, Read}
+use Rattle.lpt_c_pair.specs.Pairs.{Drop, IsDone, IsKept, Packet, Plain, Read}
 use Rattle.lpt_c_pair_examples.proofs.Computed.{arrives, asked, no_runs, packet_is, with_jobs}
 use Rattle.lpt_c_pair_examples.proofs.Making.{made}
 use Rattle.lpt_journal_examples.specs.Passes.{load, load_packet, usual}
@@ -204,21 +204,14 @@ module _ (kept : Kept) (has : sizes_in kept ≡ Some one)
     },
   )
 
-  -- or it is dropped
-  pub drops : (first : ℕ) (jobs : List Job) (was : AreRead jobs) (then_first : ℕ)
-      (then_jobs : List Job) (all : AreRead then_jobs)
-      → refusal_claim (with_jobs first jobs) ≡ None
-      → with_jobs then_first then_jobs ≡ read_as [] usual one (with_jobs first jobs)
-      → (read_refusal (craft_end first jobs was) ≡ None)
-      × IsDropped (craft_end first jobs was) (craft_end then_first then_jobs all)
-  drops first jobs was then_first then_jobs all claims is = (
-    allowed (with_jobs first jobs) claims,
+  -- or it is dropped, if it is the oldest of all
+  pub drops : (first : ℕ) (was : AreRead (Waiting load_packet ∷ []))
+      → IsDone Drop (craft_end first (Waiting load_packet ∷ []) was)
+      (craft_end (first + 1) [] none_read)
+  drops first was = (
+    allowed (with_jobs first (Waiting load_packet ∷ [])) refl,
     record {
-      node =
-          is
-          ∙ (λ i. read_as_by [] usual (sym has i) (with_jobs first jobs))
-          ∙ (λ i. read_as_by [] (sym new_k.config i) (sizes_in (sym new_k.memories i))
-          (with_jobs first jobs));
+      node = refl;
       released = refl;
       outbox = refl;
       fixed = record { side = refl; config = refl; memories = refl };

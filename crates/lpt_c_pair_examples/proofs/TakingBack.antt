@@ -1,5 +1,5 @@
--- The worked run that drops a request over which it had written, computed by the definitions.
-use Rattle.std.proofs.Common.{◌≡◌, refl, List, [], ◌∷◌, None, inl, arith}
+-- The worked run that drops a request for which it had written, computed by the definitions.
+use Rattle.std.proofs.Common.{refl, List, [], ◌∷◌, None, inl, arith}
 use Rattle.lpt_c_pair_examples.specs.Called.{usual_own}
 use Rattle.lpt_packet.specs.Checksums.{checksum, octets_in, shift_all}
 use Rattle.lpt_packet.specs.Packets.{packet_seen, spelling}
@@ -10,17 +10,26 @@ use Rattle.lpt_part.specs.Parts.{body_of, part_verdict}
 use Rattle.lpt_events.specs.Arrivals.{arrival}
 use Rattle.lpt_events.specs.declared.side.Side.TheVariants.{Ground, Craft}
 use Rattle.lpt_jobs.specs.declared.job.Job.TheVariants.{Waiting, Committed}
-use Rattle.lpt_c_end.specs.Accesses.{unready}
-use Rattle.lpt_c_end.specs.Changes.{IsNew, IsReadDropped}
+use Rattle.lpt_ledger.specs.LeastFree.{first_of_numbers, least_free_in}
+use Rattle.lpt_acts.specs.Acts as act
+use Rattle.lpt_apart.specs.Facts.{Asked, Left, Released, Restarted}
+use Rattle.lpt_apart.specs.Steps.{with_report}
+use Rattle.lpt_execution.specs.Reporting.{request_source}
+use Rattle.lpt_memory.specs.Meanings.{body_meaning, meaning}
+use Rattle.lpt_memory.specs.Requests.{front_load_area, front_head, request_in}
+use Rattle.lpt_node.specs.Jobs.{refusal_apply}
+use Rattle.lpt_node.specs.Nodes.{no_data}
+use Rattle.lpt_c_end.specs.Changes.{IsNew}
+use Rattle.lpt_c_end.specs.Codes.{node_code}
+use Rattle.lpt_c_end.specs.Kept.{memories_refusal}
 use Rattle.lpt_c_end.specs.Sizes.{IsNewSized, kept_as}
 use Rattle.lpt_c_end.specs.declared.end.End.{End}
-use Rattle.lpt_c_pair.specs.Keepers.{KeeperAct, Does, Gives, Keeper, TakesBack, Writes, CanKeepAll, new_keeper}
-use Rattle.lpt_c_pair.specs.Outages.{CanLiveAll, just_begun}
-use Rattle.lpt_c_pair.specs.Pairs.{Packet, Plain, Read}
-use Rattle.lpt_c_pair.specs.Services.{Calls, DropsRead}
+use Rattle.lpt_c_pair.specs.Pairs.{DropRead, IsDone, Packet, Plain, Read}
+use Rattle.lpt_c_pair.specs.Programs.{Act, Calls, CanActAll, Gives, Program, TakesBack, Writes, program_started}
+use Rattle.lpt_c_pair.specs.Resets.{CanLiveAll, just_begun}
 use Rattle.lpt_c_pair_examples.specs.TakenBack.{WrittenCanBeTakenBack, taken_back}
 use Rattle.lpt_c_pair_examples.specs.Worked.{load_told, sizes}
-use Rattle.lpt_c_pair_examples.proofs.Computed.{asked, octets, packet_is, source}
+use Rattle.lpt_c_pair_examples.proofs.Computed.{asked, octets, opens_nothing, packet_is, source, with_jobs}
 use Rattle.lpt_c_pair_examples.proofs.Stages.{asked_end, asks, none_read, reads, takes, takes_again}
 use Rattle.lpt_c_pair_examples.proofs.Working.{craft, craft_again, gives_it, no_more, one_done, one_waiting, reads_nothing, resumes_it, told}
 use Rattle.lpt_journal_examples.specs.Passes.{load, load_packet, usual, usual_memories}
@@ -50,13 +59,14 @@ module _ (g k : End) (new_g : IsNew Ground usual [] [] g) (new_k : IsNewSized us
   abbrev resumed : End
   resumed = craft_again k new_k 2 [] none_read
 
-  abbrev start : Keeper
-  start = new_keeper usual usual_memories 0 usual_own g k
+  abbrev start : Program
+  start = program_started usual usual_memories 0 usual_own g k
 
   -- the request that was read is let go
-  lets_go : (unready read ≡ None) × IsReadDropped read let_go
+  lets_go : IsDone DropRead read let_go
   lets_go = (
-    refl,
+    (λ i. memories_refusal (new_k.memories i)
+        (node_code (refusal_apply (with_jobs 0 (Committed source ∷ []))))),
     record {
       node = refl;
       released = refl;
@@ -68,20 +78,20 @@ module _ (g k : End) (new_g : IsNew Ground usual [] [] g) (new_k : IsNewSized us
   -- ---- the run
 
   -- up to the execution
-  abbrev run : List KeeperAct
+  abbrev run : List Act
   run =
       Gives [] (load_told ∷ []) given
-      ∷ Does (Calls (record { side = Craft; call = Read; new = read_again }))
-      ∷ Does (Calls (record { side = Craft; call = Packet load_packet; new = again }))
-      ∷ Does (DropsRead let_go)
+      ∷ Calls (record { side = Craft; call = Read; new = read_again })
+      ∷ Calls (record { side = Craft; call = Packet load_packet; new = again })
+      ∷ Calls (record { side = Craft; call = DropRead; new = let_go })
       ∷ TakesBack
       ∷ Writes load_told
-      ∷ Does (Calls (record { side = Craft; call = Read; new = read }))
-      ∷ Does (Calls (record { side = Craft; call = Packet load_packet; new = taken }))
-      ∷ Does (Calls (record { side = Ground; call = Plain 1 0 6 2 load; new = asked_for }))
+      ∷ Calls (record { side = Craft; call = Read; new = read })
+      ∷ Calls (record { side = Craft; call = Packet load_packet; new = taken })
+      ∷ Calls (record { side = Ground; call = Plain 1 0 6 2 load; new = asked_for })
       ∷ []
 
-  can : CanKeepAll usual start run
+  can : CanActAll usual start run
   unfolding packet_seen spelling checksum octets_in shift_all tc_field tc_verdict command_in tm_field
       tm_verdict body_of part_verdict arrival
   can = (
@@ -130,7 +140,7 @@ module _ (g k : End) (new_g : IsNew Ground usual [] [] g) (new_k : IsNewSized us
             ),
             tt,
           ),
-          (lets_go, refl),
+          ((lets_go, tt), refl),
         ),
         (
           (
@@ -206,7 +216,8 @@ module _ (g k : End) (new_g : IsNew Ground usual [] [] g) (new_k : IsNewSized us
 
 pub written_can_be_taken_back : WrittenCanBeTakenBack
 unfolding packet_seen spelling checksum octets_in shift_all tc_field tc_verdict command_in tm_field
-    tm_verdict body_of part_verdict arrival
+    tm_verdict body_of part_verdict arrival first_of_numbers front_load_area front_head request_in
+    body_meaning meaning
 written_can_be_taken_back g k new_g new_k = record {
   asked = asked_for g k new_g new_k;
   taken = taken g k new_g new_k;
@@ -218,6 +229,12 @@ written_can_be_taken_back g k new_g new_k = record {
   resumed = resumed g k new_g new_k;
   can = can_live g k new_g new_k;
   kept = ((((can g k new_g new_k, refl), (resumes_it k new_k 2 [] none_read, refl))), tt);
+  log = λ i.
+      Restarted Craft ∷ Left act.Execute
+      ∷ with_report (Released None load_packet ∷ Left act.Drop ∷ Released None load_packet
+      ∷ Asked load_packet ∷ [])
+      (opens_nothing (least_free_in (no_data usual).sending.ledger
+      (request_source 100 load_packet)) i);
   executed = refl;
   left = refl;
 }

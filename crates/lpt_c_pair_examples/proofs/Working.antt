@@ -22,7 +22,8 @@ use Rattle.lpt_jobs.specs.declared.job.Job.TheVariants.{Waiting, Committed}
 use Rattle.lpt_node.specs.Jobs.{executed_given}
 use Rattle.lpt_node.specs.Nodes.{NodeData, no_data}
 use Rattle.lpt_state.specs.Spellings.{state_spelled}
-use Rattle.lpt_apart.specs.Facts.{Asked, Executed, Released, Restarted}
+use Rattle.lpt_acts.specs.Acts as act
+use Rattle.lpt_apart.specs.Facts.{Asked, Left, Released, Restarted}
 use Rattle.lpt_apart.specs.Steps.{with_report}
 use Rattle.lpt_c_end.specs.Accesses.{access_word, written_by}
 use Rattle.lpt_c_end.specs.Changes.{IsNew}
@@ -247,7 +248,7 @@ worked_can_be g k new_g new_k = record {
   again = again g k new_g new_k;
   can = can g k new_g new_k;
   log = λ i.
-      Restarted Craft ∷ Executed
+      Restarted Craft ∷ Left act.Execute
       ∷ with_report (Released None load_packet ∷ Asked load_packet ∷ [])
       (opens_nothing (least_free_in (no_data usual).sending.ledger
       (request_source 100 load_packet)) i);

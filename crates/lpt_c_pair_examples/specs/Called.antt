@@ -1,8 +1,9 @@
 -- A worked run of two ends behind handles, of which the spacecraft's has its memory.
 use Rattle.std.specs.Prelude.{◌≡◌, ℕ, List, [], ◌∷◌, ◌++◌, None, replicate}
+use Rattle.lpt_acts.specs.Acts as act
 use Rattle.lpt_acts.specs.Acts.{limits_of}
 use Rattle.lpt_apart.specs.Clocks.{Own}
-use Rattle.lpt_apart.specs.Facts.{Asked, Executed, Log, Released, Restarted}
+use Rattle.lpt_apart.specs.Facts.{Asked, Left, Log, Released, Restarted}
 use Rattle.lpt_c_end.specs.Changes.{IsNew}
 use Rattle.lpt_c_end.specs.Contents.{memories_told}
 use Rattle.lpt_c_end.specs.declared.end.End.{End}
@@ -49,7 +50,7 @@ calls_made asked taken read done again =
 -- what its log says, the newest first: ground's request was released, and executed
 abbrev pub called_log : Log
 called_log =
-    Restarted Craft ∷ Executed ∷ Released None load_packet ∷ Asked load_packet ∷ []
+    Restarted Craft ∷ Left act.Execute ∷ Released None load_packet ∷ Asked load_packet ∷ []
 
 -- The same, if both ends are kept before anything that depends on it is handed over, and the
 -- spacecraft's machine is reset when the packet has come once more: that is deleted.

@@ -1,5 +1,5 @@
 pub mod Called
-pub mod Dropped
+pub mod Leavings
 pub mod Nodes
 pub mod TakenBack
 pub mod Worked

@@ -1,6 +1,7 @@
 -- A worked run of two ends apart, with no handles: each is written, and the spacecraft's is read
 -- back, and then reset.
 use Rattle.std.specs.Prelude.{◌≡◌, List, [], ◌∷◌}
+use Rattle.lpt_acts.specs.Acts.{Execute}
 use Rattle.lpt_apart.specs.Clocks.{after_all, no_pair_later}
 use Rattle.lpt_apart.specs.Moves.{Do, Move, Pair}
 use Rattle.lpt_apart.specs.Steps.{Accept, Apply, Claim, Commit, Plain}
@@ -30,7 +31,7 @@ unwritten = record {
 -- stands first
 abbrev pub moves : List Move
 moves =
-    Do Apply
+    Do (Apply Execute)
     ∷ Do (Commit W1)
     ∷ Do (Claim W1)
     ∷ Do (Accept Up load_packet)
@@ -42,7 +43,7 @@ abbrev pub deeds : List kept.Deed
 deeds =
     kept.ReadBack Craft usual
     ∷ kept.Write Craft
-    ∷ kept.Make (Do Apply)
+    ∷ kept.Make (Do (Apply Execute))
     ∷ kept.Make (Do (Commit W1))
     ∷ kept.Make (Do (Claim W1))
     ∷ kept.Make (Do (Accept Up load_packet))
@@ -56,7 +57,7 @@ lives =
     reset.Reset Craft usual
     ∷ reset.Make (Do (Accept Up load_packet))
     ∷ reset.Write Craft
-    ∷ reset.Make (Do Apply)
+    ∷ reset.Make (Do (Apply Execute))
     ∷ reset.Make (Do (Commit W1))
     ∷ reset.Make (Do (Claim W1))
     ∷ reset.Make (Do (Accept Up load_packet))

@@ -1,7 +1,7 @@
 //! Runs of two ends behind handles, and what comes of them: functions with empty bodies.
 
 ghost use Rattle.lpt_c_pair_examples.specs.Called.{CallsCanBe};
-ghost use Rattle.lpt_c_pair_examples.specs.Dropped.{DroppedCanBe};
+ghost use Rattle.lpt_c_pair_examples.specs.Leavings.{LeavingsCanBe};
 ghost use Rattle.lpt_c_pair_examples.specs.Nodes.{NodesCanBe};
 ghost use Rattle.lpt_c_pair_examples.specs.TakenBack.{WrittenCanBeTakenBack};
 ghost use Rattle.lpt_c_pair_examples.specs.Worked.{TornCanBeRedone, WorkedCanBe, WrittenCanBePutBack};
@@ -37,17 +37,16 @@ pub fn written_can_be_put_back()
 {}
 
 /// With any two new ends, of which the spacecraft's has its memory: a load comes twice. The program
-/// drops it when it comes first, and reads it when it comes again. The execution of the first
-/// leaves the memory as it was; that of the second is the only one in the list, and writes it. It
-/// is the same if the machine is reset after that.
-pub fn dropped_can_be()
-    ensures { DroppedCanBe }
+/// drops it when it comes first, and makes no report; it refuses it when it comes again, and makes
+/// one. The memory stays as it was.
+pub fn leavings_can_be()
+    ensures { LeavingsCanBe }
 {}
 
-/// The same can be done if the program has the memory: it reads the first and writes the load, puts
-/// back what stood there and lets the request go. It executes the second, with its write owed, and
-/// its machine is reset while half of that is written. The second is the only one in the list, and
-/// the load stands in the memory.
+/// If the program has the memory: it reads the first and writes the load, puts back what stood
+/// there and drops the request. It executes the second, with its write owed, and its machine is
+/// reset while half of that is written. The second alone is executed, and the load stands in the
+/// memory.
 pub fn written_can_be_taken_back()
     ensures { WrittenCanBeTakenBack }
 {}

@@ -10,12 +10,11 @@ use Rattle.lpt_events.specs.Lanes.{same_direction}
 use Rattle.lpt_events.specs.Sides.{sender_side}
 use Rattle.lpt_events.specs.declared.config.Config.{Config}
 use Rattle.lpt_events.specs.declared.side.Side.{Side}
-use Rattle.lpt_node.specs.Jobs.{job_executed}
 use Rattle.lpt_node.specs.Nodes.{NodeData}
 use Rattle.lpt_node.specs.Requests.{plain_made}
 use Rattle.lpt_node.specs.Times.{expired_of, which_ends}
 use Rattle.lpt_journal.proofs.CountLemmas.{same_name-comm}
-use Rattle.lpt_model.specs.State.{as_list}
+use Rattle.lpt_model.specs.State.{as_list, job_left}
 use Rattle.lpt_model.specs.Tickets.{ticket_of}
 use Rattle.lpt_apart.specs.Ends.{Ends, PutOut, is_part, node_at, put_out, with_node, without}
 use Rattle.lpt_apart.specs.Facts.{is_same}
@@ -90,8 +89,8 @@ part_before c e (Commit w) p name own tagged at = go (ticket_of e.tickets w) at 
   go : (o : Option Job) → There (committed_on c e w o).on_the_way p → There e.on_the_way p
   go None at = at
   go (Some t) at = at
-part_before c e Apply p name own tagged at =
-    put_before e.on_the_way p name Down (job_executed c e.on_craft e.memories).0.1.packets tagged at
+part_before c e (Apply how) p name own tagged at =
+    put_before e.on_the_way p name Down (job_left how c e.on_craft e.memories).0.1.packets tagged at
 part_before c e (Retire way i) p name own tagged at = absurd own
 part_before c e (Restart side) p name own tagged at = same_there e side _ p at
 

@@ -15,10 +15,9 @@ use Rattle.lpt_events.specs.declared.config.Config.{Config}
 use Rattle.lpt_events.specs.declared.side.Side.TheVariants.{Ground, Craft}
 use Rattle.lpt_events.specs.declared.worker.Worker.{Worker}
 use Rattle.lpt_node.specs.Accepting.{packet_accepted}
-use Rattle.lpt_node.specs.Jobs.{job_executed}
 use Rattle.lpt_node.specs.Requests.{plain_made}
 use Rattle.lpt_node.specs.Times.{expired_of, which_ends}
-use Rattle.lpt_model.specs.State.{as_list}
+use Rattle.lpt_model.specs.State.{as_list, job_left}
 use Rattle.lpt_model.specs.Tickets.{ticket_of}
 use Rattle.lpt_apart.specs.Ends.{Ends, PutOut, put_out, is_part, without}
 use Rattle.lpt_apart.specs.Moves.{Do, Free, Move, Pair, pair_after}
@@ -162,7 +161,7 @@ ground_ways c (Do (Expire Ground which)) p q of node same =
 ground_ways c (Do (Expire Craft which)) p q of node same = absurd cc
 ground_ways c (Do (Claim w)) p q of node same = absurd cc
 ground_ways c (Do (Commit w)) p q of node same = absurd cc
-ground_ways c (Do Apply) p q of node same = absurd cc
+ground_ways c (Do (Apply how)) p q of node same = absurd cc
 ground_ways c (Do (Retire Up name)) p q of node same =
     left_loose Up Up name p.ends.on_the_way ∙ same
     ∙ sym (left_loose Up Up name q.ends.on_the_way)
@@ -202,8 +201,8 @@ ground_left c (Do (Commit w)) p of = go (ticket_of p.ends.tickets w) where
       → loose_in Up (committed_on c p.ends w o).on_the_way ≡ loose_in Up p.ends.on_the_way
   go None = refl
   go (Some t) = refl
-ground_left c (Do Apply) p of =
-    put_down p.ends.on_the_way (job_executed c p.ends.on_craft p.ends.memories).0.1.packets
+ground_left c (Do (Apply how)) p of =
+    put_down p.ends.on_the_way (job_left how c p.ends.on_craft p.ends.memories).0.1.packets
 ground_left c (Do (Retire Up name)) p of = absurd cc
 ground_left c (Do (Retire Down name)) p of = left_loose Up Down name p.ends.on_the_way
 ground_left c (Do (Restart Ground)) p of = absurd cc
@@ -254,11 +253,11 @@ craft_ways c (Do (Claim w)) p q of node same = same
 craft_ways c (Do (Commit w)) p q of node same =
     ap (loose_in Down) (commits_nothing c p.ends (ticket_of p.ends.tickets w) w) ∙ same
     ∙ ap (loose_in Down) (sym (commits_nothing c q.ends (ticket_of q.ends.tickets w) w))
-craft_ways c (Do Apply) p q of node same =
-    put_own p.ends.on_the_way (job_executed c p.ends.on_craft p.ends.memories).0.1.packets
+craft_ways c (Do (Apply how)) p q of node same =
+    put_own p.ends.on_the_way (job_left how c p.ends.on_craft p.ends.memories).0.1.packets
     ∙ (λ i. put_out (same i) Down None
-    (job_executed c ((node i).node) ((node i).memories)).0.1.packets)
-    ∙ sym (put_own q.ends.on_the_way (job_executed c q.ends.on_craft q.ends.memories).0.1.packets)
+    (job_left how c ((node i).node) ((node i).memories)).0.1.packets)
+    ∙ sym (put_own q.ends.on_the_way (job_left how c q.ends.on_craft q.ends.memories).0.1.packets)
 craft_ways c (Do (Retire Up name)) p q of node same = absurd cc
 craft_ways c (Do (Retire Down name)) p q of node same =
     left_loose Down Down name p.ends.on_the_way ∙ same
@@ -293,7 +292,7 @@ craft_left c (Do (Expire Ground which)) p of =
 craft_left c (Do (Expire Craft which)) p of = absurd cc
 craft_left c (Do (Claim w)) p of = absurd cc
 craft_left c (Do (Commit w)) p of = absurd cc
-craft_left c (Do Apply) p of = absurd cc
+craft_left c (Do (Apply how)) p of = absurd cc
 craft_left c (Do (Retire Up name)) p of = left_loose Down Up name p.ends.on_the_way
 craft_left c (Do (Retire Down name)) p of = absurd cc
 craft_left c (Do (Restart Ground)) p of = refl

@@ -320,7 +320,7 @@ module _ (c : Config) (start : Pair) where
   )
   can_same (Commit w) xs ys steady s can =
       ap (λ (a : Aboard). is_some (ticket_of a.tickets w)) (sym s.has) ∙ can
-  can_same Apply xs ys steady s can =
+  can_same (Apply how) xs ys steady s can =
       ap (λ (a : Aboard). refusal_apply a.node) (sym s.has) ∙ can
   can_same (Retire d name) xs ys steady s can = absurd steady
   can_same (Restart side) xs ys steady s can = can

@@ -56,7 +56,7 @@ sends_step (Tick side turn) xs d name stays = refl
 sends_step (Expire side which) xs d name stays = refl
 sends_step (Claim w) xs d name stays = refl
 sends_step (Commit w) xs d name stays = refl
-sends_step Apply xs d name stays = refl
+sends_step (Apply how) xs d name stays = refl
 sends_step (Retire way i) xs d name stays = absurd stays
 sends_step (Restart side) xs d name stays = refl
 

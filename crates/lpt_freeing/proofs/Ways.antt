@@ -11,11 +11,10 @@ use Rattle.lpt_events.specs.Sides.{sender_side, receiver_side}
 use Rattle.lpt_events.specs.declared.config.Config.{Config}
 use Rattle.lpt_events.specs.declared.side.Side.{Side}
 use Rattle.lpt_events.specs.declared.side.Side.TheVariants.{Ground, Craft}
-use Rattle.lpt_node.specs.Jobs.{job_executed}
 use Rattle.lpt_node.specs.Nodes.{NodeData}
 use Rattle.lpt_node.specs.Accepting.{packet_accepted}
 use Rattle.lpt_node.specs.Times.{expired_of, which_ends}
-use Rattle.lpt_model.specs.State.{as_list}
+use Rattle.lpt_model.specs.State.{as_list, job_left}
 use Rattle.lpt_model.specs.Tickets.{ticket_of}
 use Rattle.lpt_journal.proofs.CountLemmas.{same_name-comm}
 use Rattle.lpt_apart.specs.Ends.{PutOut, Ends, node_at, with_node, put_out, is_part, without}
@@ -131,7 +130,7 @@ there_step c e (Commit w) p stays at = go (ticket_of e.tickets w) where
   go : (o : Option Job) → There (committed_on c e w o).on_the_way p
   go None = at
   go (Some t) = at
-there_step c e Apply p stays at =
-    there_put e.on_the_way p Down None (job_executed c e.on_craft e.memories).0.1.packets at
+there_step c e (Apply how) p stays at =
+    there_put e.on_the_way p Down None (job_left how c e.on_craft e.memories).0.1.packets at
 there_step c e (Retire way i) p stays at = absurd stays
 there_step c e (Restart side) p stays at = there_same e side _ p at

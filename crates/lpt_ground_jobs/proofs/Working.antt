@@ -26,7 +26,8 @@ use Rattle.lpt_events.specs.Arrivals.{arrival}
 use Rattle.lpt_events.specs.Configs.{IsConfig}
 use Rattle.lpt_execution.specs.Reporting.{opened_of, request_source}
 use Rattle.lpt_node.specs.Nodes.{no_data}
-use Rattle.lpt_apart.specs.Facts.{Asked as AskedFor, Executed, Log, Opened, Released}
+use Rattle.lpt_acts.specs.Acts.{Execute}
+use Rattle.lpt_apart.specs.Facts.{Asked as AskedFor, Left, Log, Opened, Released}
 use Rattle.lpt_apart.specs.Moves.{came_to, CanMoveAll}
 use Rattle.lpt_apart.specs.Steps.{IsOnTheWay, with_report}
 use Rattle.lpt_passes.specs.Passes.{IsAloneIn}
@@ -158,13 +159,13 @@ opens-nothing (Some name) = refl
 
 -- what happens of which the promise speaks
 abbrev log : Log
-log = Executed ∷ Released None request ∷ AskedFor request ∷ []
+log = Left Execute ∷ Released None request ∷ AskedFor request ∷ []
 
 logged : (came_to usual usual_memories run).ends.log ≡ log
 unfolding packet_seen spelling checksum octets_in shift_all tc_field tc_verdict command_in tm_field
     tm_verdict body_of part_verdict arrival first_of_numbers front_load_area front_head request_in
     body_meaning meaning
-logged = λ i. Executed ∷ with_report (Released None request ∷ AskedFor request ∷ [])
+logged = λ i. Left Execute ∷ with_report (Released None request ∷ AskedFor request ∷ [])
     (opens-nothing (least_free_in (no_data usual).sending.ledger (request_source 100 request)) i)
 
 on-the-way : IsOnTheWay (came_to usual usual_memories run).ends Down report

@@ -3,6 +3,7 @@ use Rattle.std.specs.Prelude.{◌≡◌, ℕ, List, [], ◌∷◌}
 use Rattle.lpt_packet.specs.declared.direction.Direction.TheVariants.{Up}
 use Rattle.lpt_events.specs.Configs.{IsConfig}
 use Rattle.lpt_events.specs.declared.worker.Worker.TheVariants.{W1}
+use Rattle.lpt_acts.specs.Acts.{Execute}
 use Rattle.lpt_apart.specs.Moves.{Do, Move, came_to, CanMoveAll}
 use Rattle.lpt_apart.specs.Steps.{Plain, Accept, Claim, Commit, Apply}
 use Rattle.lpt_ground.specs.Carrying.{Answer, Came, Nothing, packets_of}
@@ -60,7 +61,7 @@ answers = Nothing ∷ Came report ∷ []
 -- ground asks, and the spacecraft executes, the newest move first
 abbrev pub run : List Move
 run =
-    Do Apply ∷ Do (Commit W1) ∷ Do (Claim W1) ∷ Do (Accept Up request)
+    Do (Apply Execute) ∷ Do (Commit W1) ∷ Do (Claim W1) ∷ Do (Accept Up request)
     ∷ Do (Plain 7 8 6 2 load) ∷ []
 
 -- all that is asked of a completed job: of the pass `g` that began, and of what it became

@@ -6,12 +6,12 @@ use Rattle.lpt_events.specs.declared.entry.Release.{Release}
 use Rattle.lpt_events.specs.declared.side.Side.{Side}
 use Rattle.lpt_events.specs.declared.side.Side.TheVariants.{Craft}
 use Rattle.lpt_journal.specs.Headline.{before}
-use Rattle.lpt_journal.specs.Jobs.{boot, jobs}
+use Rattle.lpt_journal.specs.Jobs.{boot, jobs, executed_now}
 use Rattle.lpt_journal.specs.Journal.{History}
 use Rattle.lpt_journal.specs.Releases.{released_by}
 use Rattle.lpt_journal.specs.Senders.{restarts}
 use Rattle.lpt_journal.proofs.JobLemmas.{in_order}
-use Rattle.lpt_journal.proofs.NewJobs.{came_up, new_job, job_cases}
+use Rattle.lpt_journal.proofs.NewJobs.{came_up, new_job, job_cases, executes_one}
 use Rattle.lpt_journal.proofs.Releasing.{before_old, before_new}
 use Rattle.lpt_journal.proofs.TestLemmas.{IsOldOrNew, no_place}
 
@@ -39,7 +39,7 @@ job_boot c (x ∷ h) k r e = go (job_boot c h k r) (job_cases c x h k r e).1 whe
       → IsOldOrNew (jobs c h) (came_up (released_by c x h)) k r
       → boot (before r.place (x ∷ h)) Craft ≡ boot (x ∷ h) Craft
   go had (inl old) =
-      let past = (in_order c h).jobs_past k r old in
+      let past = (in_order (λ s. s) executed_now executes_one c h).jobs_past k r old in
       ap (λ g. boot g Craft) (before_old h x r.place (omega (arith, past))) ∙ had old ∙ sym boots
   go had (inr fresh) =
       ap (λ g. boot g Craft) (before_new h x r.place (new_job c x h fresh.0 r fresh.2).1)

@@ -28,7 +28,7 @@ use Rattle.lpt_journal.specs.Due.{given_up}
 use Rattle.lpt_journal.specs.Replies.{answer, expired_now, entry, history_after}
 use Rattle.lpt_journal.specs.Refusals.{refusal}
 use Rattle.lpt_journal.specs.Legal.{IsEnabled, Legal}
-use Rattle.lpt_journal.proofs.JobLemmas.{memories_follow}
+use Rattle.lpt_journal.proofs.JobLemmas.{memories_follow, queue_follows}
 use Rattle.lpt_journal.specs.Headline.{PartsAreCurrent, EachIsLastOpened, IsSoundOutcome, WasSoundDelivery, DeliveriesAreSound, DeliveriesWereSound, Headline}
 use Rattle.lpt_journal.proofs.TestLemmas.{one_passes, no_place}
 use Rattle.lpt_events.specs.declared.side.Side.TheVariants.{Craft}
@@ -90,8 +90,8 @@ owes c first h (Expire side which) good sound up can = expire_owes c first h sid
 owes c first h (Take l n) good sound up can = take_owes c first h l n sound can.accepted
 owes c first h (Deliver l) good sound up can =
     let n = delivered c h l can.accepted in deliver_owes c first h l n.0 good sound n.1
-owes c first h Apply good sound up can =
-    apply_owes c first h good sound
+owes c first h (Apply how) good sound up can =
+    apply_owes c first h how good sound
     (λ r e.
     let octets = up.requests (jobs_applied h) r e in
     (answer_fits c.apid (memories c first h) r.message octets, source_fits c.apid r.message octets))
@@ -257,4 +257,5 @@ headline c first es good legal =
       deliveries = deliveries c h all.0;
       delivered = each_delivered c first es good legal;
       memories = memories;
+      queue = queue_follows c h;
     }

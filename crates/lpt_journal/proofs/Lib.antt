@@ -17,6 +17,7 @@ pub mod EndedLemmas
 pub mod Events
 pub mod HeadlineLemmas
 pub mod JobLemmas
+pub mod LeavingLemmas
 pub mod MapLemmas
 pub mod NewJobs
 pub mod OctetLemmas

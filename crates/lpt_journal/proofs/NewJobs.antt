@@ -1,11 +1,11 @@
 -- What an entry releases and executes is one request, or none; and which jobs there are after it.
-use Rattle.std.proofs.Common.{◌≡◌, ◌∙◌, ap, sym, refl, ℕ, zero, suc, Bool, true, false, ◌⊎◌, inl, inr, if◌then◌else◌, List, [], ◌∷◌, length, Option, Some, None}
+use Rattle.std.proofs.Common.{◌≡◌, ◌∙◌, ap, sym, refl, ℕ, zero, suc, ◌+◌, Bool, true, false, ◌⊎◌, inl, inr, if◌then◌else◌, List, [], ◌∷◌, length, Option, Some, None}
 use Rattle.std.specs.List.{slice_get, filter}
 use Rattle.lpt_packet.specs.declared.direction.Direction.{Direction}
 use Rattle.lpt_packet.specs.Names.{Name}
 use Rattle.lpt_reception.specs.Received.{Parts}
 use Rattle.lpt_events.specs.declared.config.Config.{Config}
-use Rattle.lpt_acts.specs.Acts.{Act, Apply, Deliver}
+use Rattle.lpt_acts.specs.Acts.{Leaving, Execute, Act, Apply, Deliver}
 use Rattle.lpt_events.specs.declared.entry.Release.{Release}
 use Rattle.lpt_events.specs.declared.lane.Lane.{Lane}
 use Rattle.lpt_events.specs.Lanes.{lane_direction}
@@ -15,7 +15,7 @@ use Rattle.lpt_events.specs.declared.reply.Answer.TheVariants.{Delivered}
 use Rattle.lpt_events.specs.Arrivals.{Arrival, ARequest, APart}
 use Rattle.lpt_events.specs.declared.side.Side.TheVariants.{Craft}
 use Rattle.lpt_journal.specs.Journal.{Recorded, History, with_all}
-use Rattle.lpt_journal.specs.Jobs.{went_up, jobs, executed_now}
+use Rattle.lpt_journal.specs.Jobs.{went_up, jobs, applied_after, executed_now, left_now}
 use Rattle.lpt_journal.specs.Releases.{released_now, release_after, released_by}
 use Rattle.lpt_journal.specs.Senders.{restarts}
 use Rattle.lpt_journal.proofs.TestLemmas.{IsOldOrNew, with_all_cases, no_place}
@@ -83,8 +83,41 @@ job_cases c x h k r e = go (restarts x.event Craft) refl e where
 -- what an entry executes is one request, the oldest job
 pub new_executed : (e : Act) (front : Option Release) (k : ℕ) (r : Release)
     → slice_get (executed_now e front) k ≡ Some r
-    → (k ≡ 0) × (e ≡ Apply) × (front ≡ Some r)
-new_executed Apply (Some s) zero r e = (refl, refl, e)
-new_executed Apply (Some s) (suc k) r e = absurd (no_place k r e)
-new_executed Apply None k r e = absurd (no_place k r e)
+    → (k ≡ 0) × (e ≡ Apply Execute) × (front ≡ Some r)
+new_executed (Apply Execute) (Some s) zero r e = (refl, refl, e)
+new_executed (Apply Execute) (Some s) (suc k) r e = absurd (no_place k r e)
+new_executed (Apply Execute) None k r e = absurd (no_place k r e)
 new_executed e front k r f = absurd (no_place k r f)
+
+-- what an event takes is one, of the oldest job, which leaves
+pub record IsOneTaken {A : Type 0} (request : A → Release) (e : Act) (front : Option Release)
+    (k : ℕ) (x : A) : Type 0 where
+  pub alone : k ≡ 0
+  pub leaves : (n : ℕ) → applied_after e n ≡ n + 1
+  pub oldest : front ≡ Some (request x)
+
+-- so it is of each event
+abbrev pub TakesOne : {A : Type 0} → (A → Release) → (Act → Option Release → List A) → Type 0
+TakesOne {A = A} request now =
+    (e : Act) (front : Option Release) (k : ℕ) (x : A)
+    → slice_get (now e front) k ≡ Some x
+    → IsOneTaken request e front k x
+
+-- so it is of what is executed
+pub executes_one : TakesOne (λ r. r) executed_now
+executes_one e front k r f =
+    let it = new_executed e front k r f in record {
+      alone = it.0;
+      leaves = λ n. ap (λ a. applied_after a n) it.1;
+      oldest = it.2;
+    }
+
+-- and of what leaves, executed or not
+pub leaves_one : TakesOne (λ x. x.1) left_now
+leaves_one (Apply how) (Some s) zero x f =
+    record { alone = refl; leaves = λ n. refl; oldest = ap (λ y. Some y.1) (the_first f) } where
+      the_first : slice_get ((how, s) ∷ []) 0 ≡ Some x → (how, s) ≡ x
+      the_first g = cc
+leaves_one (Apply how) (Some s) (suc k) x f = absurd (no_place k x f)
+leaves_one (Apply how) None k x f = absurd (no_place k x f)
+leaves_one e front k x f = absurd (no_place k x f)

@@ -6,7 +6,7 @@ use Rattle.lpt_memory.specs.Memories.{Contents}
 use Rattle.lpt_memory.specs.Readings.{Job}
 use Rattle.lpt_events.specs.Workers.{same_worker}
 use Rattle.lpt_events.specs.declared.config.Config.{Config}
-use Rattle.lpt_acts.specs.Acts.{Act, Expire, Claim, Commit, Apply, Restart}
+use Rattle.lpt_acts.specs.Acts.{Leaving, Act, Expire, Claim, Commit, Apply, Restart}
 use Rattle.lpt_events.specs.declared.fault.StepFault.TheVariants.{HandEmpty, NoJob, NotReady}
 use Rattle.lpt_events.specs.declared.side.Side.TheVariants.{Craft}
 use Rattle.lpt_events.specs.declared.worker.Worker.{Worker}
@@ -113,22 +113,22 @@ commit_step c first h w can sound =
 
 -- ---- executions
 
--- what is executed was committed
-pub ready_to_apply : (c : Config) (h : History)
-    → refusal c h Apply ≡ None
+-- what leaves was committed
+pub ready_to_apply : (c : Config) (h : History) (how : Leaving)
+    → refusal c h (Apply how) ≡ None
     → is_committed h (jobs_applied h) ≡ true
-ready_to_apply c h can =
+ready_to_apply c h how can =
     let t =
     two_pass (not (is_some (front_job c h))) (not (is_committed h (jobs_applied h))) NoJob NotReady
     can
     in not_false (is_committed h (jobs_applied h)) t.1
 
-apply_step : (c : Config) (first : Contents) (h : History)
-    → refusal c h Apply ≡ None
+apply_step : (c : Config) (first : Contents) (h : History) (how : Leaving)
+    → refusal c h (Apply how) ≡ None
     → JobsAreSound c h
-    → JobsAreSound c (entry c first h Apply ∷ h)
-apply_step c first h can sound =
-    let ready = ready_to_apply c h can in
+    → JobsAreSound c (entry c first h (Apply how) ∷ h)
+apply_step c first h how can sound =
+    let ready = ready_to_apply c h how can in
     record {
       applied_fits = omega (arith, sound.committed (jobs_applied h) ready);
       claimed_fits = sound.claimed_fits;
@@ -192,7 +192,7 @@ pub jobs_step : (c : Config) (first : Contents) (h : History) (e : Act)
     → JobsAreSound c (entry c first h e ∷ h)
 jobs_step c first h (Claim w) can sound = claim_step c first h w can sound
 jobs_step c first h (Commit w) can sound = commit_step c first h w can sound
-jobs_step c first h Apply can sound = apply_step c first h can sound
+jobs_step c first h (Apply how) can sound = apply_step c first h how can sound
 jobs_step c first h (Restart Craft) can sound = restart_step c first h sound
 jobs_step c first h (Expire side which) can sound =
     jobless_step c h (entry c first h (Expire side which)) (record {

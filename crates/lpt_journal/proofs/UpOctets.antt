@@ -63,7 +63,7 @@ opened_octets c first h (Open d i m) can name o f =
     let same : record { place = length h; direction = d; name = i; message = m } ≡ o =
     only_opening Up name _ o f in
     subst (λ (u : Opening). IsOctets u.message) same can.in_range.1
-opened_octets c first h Apply can name o f = go (front_opened c first h) f where
+opened_octets c first h (Apply how) can name o f = go (front_opened c first h how) f where
   go : (x : Option (Name × List ℕ))
       → find (is_opening_of Up name) (opened_down (length h) x) ≡ Some o
       → IsOctets o.message
@@ -142,8 +142,8 @@ put_up c first h (Expire side which) n p f up =
       go : (o : Option Name) → slice_get (expiry_puts c h side o) n ≡ Some p → ⊥
       go None k = no_place n p k
       go (Some name) k = aborts_down c h side name _ n p k up
-put_up c first h Apply n p f up =
-    absurd (reports_down (link_packets c.part_size (front_packets c first h)) n p f up)
+put_up c first h (Apply how) n p f up =
+    absurd (reports_down (link_packets c.part_size (front_packets c first h how)) n p f up)
 put_up c first h e n p f up = absurd (no_place n p f)
 
 put_octets : (c : Config) (first : Contents) (h : History) (e : Act)

@@ -1,4 +1,4 @@
--- What an execution owes, and that it pays it.
+-- What a request owes that leaves, and that it pays it.
 use Rattle.std.proofs.Common.{◌≡◌, ◌∙◌, ap, sym, subst, refl, ℕ, zero, suc, ◌+◌, nat_lt, ◌≤◌, ◌<◌, Bool, true, false, not, if◌then◌else◌, inl, List, [], ◌∷◌, length, map, Option, Some, None, arith}
 use Rattle.std.proofs.lemmas.Bool.Decides.{nat_tests}
 use Rattle.std.specs.List.{slice_get, find, filter, AllByRecursion}
@@ -17,8 +17,9 @@ use Rattle.lpt_events.specs.Configs.{IsConfig}
 use Rattle.lpt_events.specs.TelemetryKinds.{service_of, subtype_of}
 use Rattle.lpt_events.specs.declared.entry.Opening.{Opening}
 use Rattle.lpt_events.specs.declared.entry.Release.{Release}
-use Rattle.lpt_acts.specs.Acts.{Apply}
+use Rattle.lpt_acts.specs.Acts.{Leaving, Execute, Refuse, Drop, ending_by, Apply}
 use Rattle.lpt_events.specs.declared.side.Side.TheVariants.{Craft}
+use Rattle.lpt_execution.specs.declared.ending.Ending.{Ending}
 use Rattle.lpt_execution.specs.Endings.{is_small}
 use Rattle.lpt_execution.specs.Reporting.{message_reports, request_source, link_packets, large_packets, opened_of}
 use Rattle.lpt_execution.specs.declared.ending.Report.{Report}
@@ -29,15 +30,15 @@ use Rattle.lpt_journal.specs.Receivers.{clock, limits}
 use Rattle.lpt_journal.specs.Replies.{entry}
 use Rattle.lpt_journal.specs.Senders.{is_opening_of, sender, is_free, least_free, open_count, current, packets_made}
 use Rattle.lpt_journal.proofs.Events.{free_current, only_opening}
-use Rattle.lpt_journal.proofs.SentReports.{IsSendable, IsReportMade, all_made, message_sendable, ending_fits}
+use Rattle.lpt_journal.proofs.SentReports.{IsSendable, IsReportMade, EndingFits, all_made, message_sendable, ending_fits}
 use Rattle.lpt_journal.proofs.Steps.{IsRead, IsPut, IsSound, IsNew, Owes, opening_found}
 use Rattle.lpt_journal.proofs.TestLemmas.{no_place}
 
 -- the packet of a report is read, and is no part
-report_sound : (c : Config) (g : History) (x : Report × List ℕ)
+report_sound : (c : Config) (g : History) (how : Leaving) (x : Report × List ℕ)
     → IsReportMade c x
-    → IsPut c g Apply (record { direction = Down; octets = x.1 })
-report_sound c g x it = record {
+    → IsPut c g (Apply how) (record { direction = Down; octets = x.1 })
+report_sound c g how x it = record {
   sound = record {
     is_read = subst (λ a. IsRead a) (sym it.arrives) tt;
     part = λ q e.
@@ -48,15 +49,15 @@ report_sound c g x it = record {
 }
 
 -- all packets that go on the link are
-puts_sound : (c : Config) (g : History) (xs : List (Report × List ℕ))
+puts_sound : (c : Config) (g : History) (how : Leaving) (xs : List (Report × List ℕ))
     → AllByRecursion (IsReportMade c) xs
     → (k : ℕ) (p : SentPacket)
     → slice_get (map (λ b. record { direction = Down; octets = b }) (link_packets c.part_size xs)) k
     ≡ Some p
-    → IsPut c g Apply p
-puts_sound c g [] all k p f = absurd (no_place k p f)
-puts_sound c g (x ∷ xs) all k p f =
-    go (is_small c.part_size (length x.0.body)) k f (puts_sound c g xs all.1)
+    → IsPut c g (Apply how) p
+puts_sound c g how [] all k p f = absurd (no_place k p f)
+puts_sound c g how (x ∷ xs) all k p f =
+    go (is_small c.part_size (length x.0.body)) k f (puts_sound c g how xs all.1)
   where
     rest : List SentPacket
     rest = map (λ b. record { direction = Down; octets = b }) (link_packets c.part_size xs)
@@ -66,11 +67,11 @@ puts_sound c g (x ∷ xs) all k p f =
         (map (λ x. x.1) (if b then x ∷ filter (λ x. is_small c.part_size (length x.0.body)) xs
         else filter (λ x. is_small c.part_size (length x.0.body)) xs))) k ≡ Some p
         → ((k : ℕ) (p : SentPacket) → slice_get (map (λ b. record { direction = Down; octets = b })
-        (link_packets c.part_size xs)) k ≡ Some p → IsPut c g Apply p)
-        → IsPut c g Apply p
+        (link_packets c.part_size xs)) k ≡ Some p → IsPut c g (Apply how) p)
+        → IsPut c g (Apply how) p
     go true zero f others =
         let same : record { direction = Down; octets = x.1 } ≡ p = cc in
-        subst (λ y. IsPut c g Apply y) same (report_sound c g x all.0)
+        subst (λ y. IsPut c g (Apply how) y) same (report_sound c g how x all.0)
     go true (suc k) f others = others k p f
     go false k f others = others k p f
 
@@ -159,26 +160,34 @@ opens_new c h source xs from all d name o f =
               (large_message c xs b bs all large);
         }
 
--- an execution pays what it owes, where the answer to the oldest request fits a packet, and so does
--- the source that its reports go to
-pub apply_owes : (c : Config) (first : Contents) (h : History)
+-- so it is of any request that leaves
+pub ending_by_fits : (how : Leaving) (end : Ending)
+    → EndingFits end
+    → EndingFits (ending_by how end)
+ending_by_fits Execute end fits = fits
+ending_by_fits (Refuse code) end fits = tt
+ending_by_fits Drop end fits = tt
+
+-- a request that leaves pays what it owes, where the answer to the oldest request fits a packet,
+-- and so does the source that its reports go to
+pub apply_owes : (c : Config) (first : Contents) (h : History) (how : Leaving)
     → IsConfig c
     → IsSound c h
     → ((r : Release)
     → front_job c h ≡ Some r
     → AnswerFits (effect_of c (memories c first h) r.message)
     × (request_source c.apid r.message < 65536))
-    → Owes c h (entry c first h Apply)
-apply_owes c first h good sound fits =
-    let xs = front_packets c first h in
+    → Owes c h (entry c first h (Apply how))
+apply_owes c first h how good sound fits =
+    let xs = front_packets c first h how in
     let all : AllByRecursion (IsReportMade c) xs =
-    all_made c (front_source c h) (packets_made h Down) (clock c h Craft) (front_reports c first h)
-    good to
+    all_made c (front_source c h) (packets_made h Down) (clock c h Craft)
+    (front_reports c first h how) good to
     (sound.clocks Craft) (sendable (front_job c h) refl) in
     record {
       opens = opens_new c h (front_source c h) xs to all;
       retires = λ e i r. absurd cc;
-      puts = puts_sound c (entry c first h Apply ∷ h) xs all;
+      puts = puts_sound c (entry c first h (Apply how) ∷ h) how xs all;
       takes = λ l n f. inl f;
       hears = λ e i. inl refl;
       clocks = sound.clocks;
@@ -197,11 +206,12 @@ apply_owes c first h good sound fits =
         → front_job c h ≡ o
         → AllByRecursion IsSendable
         (option_map_or (λ (r : Release). message_reports c.apid r.message
-        (ending_of c first h r.message)) o [])
+        (ending_of c first h how r.message)) o [])
     sendable None e = tt
     sendable (Some r) e =
-        message_sendable c.apid r.message (ending_of c first h r.message)
+        message_sendable c.apid r.message (ending_of c first h how r.message)
+        (ending_by_fits how _
         (ending_fits c.part_size (is_some (least_free h Down (request_source c.apid r.message)))
         (nat_lt (open_count h Down) (limits c h Craft).outgoing)
         (effect_of c (memories c first h) r.message)
-        (fits r e).0)
+        (fits r e).0))

@@ -7,7 +7,7 @@ use Rattle.lpt_memory.specs.Readings.{Job}
 use Rattle.lpt_events.specs.Workers.{same_worker}
 use Rattle.lpt_events.specs.declared.config.Config.{Config}
 use Rattle.lpt_events.specs.declared.entry.Release.{Release}
-use Rattle.lpt_acts.specs.Acts.{Act, Commit, Apply}
+use Rattle.lpt_acts.specs.Acts.{Execute, Act, Commit, Apply}
 use Rattle.lpt_events.specs.declared.side.Side.TheVariants.{Craft}
 use Rattle.lpt_events.specs.declared.worker.Worker.{Worker}
 use Rattle.lpt_events.specs.declared.worker.Worker.TheVariants.{W1, W2}
@@ -70,6 +70,7 @@ stale_same c first h w t had earlier = record {
   claimed = refl;
   applied = refl;
   executed = refl;
+  left = refl;
   memories = refl;
   boots = λ side. refl;
   sent = refl;
@@ -129,9 +130,12 @@ execution_holds : (c : Config) (first : Contents) (h : History) (e : Act) (r : R
     → refusal c h e ≡ None
     → executed_by c (entry c first h e) h ≡ r ∷ []
     → WasOfThisBoot h r
-execution_holds c first h Apply r can is =
-    let it = new_executed Apply (front_job c h) 0 r (ap (λ rs. slice_get rs 0) is) in
-    record { released = job_boot c h (jobs_applied h) r it.2; committed = ready_to_apply c h can }
+execution_holds c first h (Apply Execute) r can is =
+    let it = new_executed (Apply Execute) (front_job c h) 0 r (ap (λ rs. slice_get rs 0) is) in
+    record {
+      released = job_boot c h (jobs_applied h) r it.2;
+      committed = ready_to_apply c h Execute can;
+    }
 execution_holds c first h e r can is = absurd cc
 
 executions_hold : (c : Config) (first : Contents) (es : List Act)

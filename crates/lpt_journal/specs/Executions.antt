@@ -1,8 +1,9 @@
--- What the execution of the oldest request answers, puts and opens.
+-- What the oldest request answers, puts and opens that leaves the queue.
 use Rattle.std.specs.Prelude.{ℕ, nat_lt, List, [], ◌∷◌, length, map, Option, Some, None, is_some}
 use Rattle.std.specs.Option.{option_map_or}
 use Rattle.lpt_packet.specs.declared.direction.Direction.TheVariants.{Down}
 use Rattle.lpt_packet.specs.Names.{Name}
+use Rattle.lpt_acts.specs.Acts.{Leaving, ending_by}
 use Rattle.lpt_memory.specs.declared.effect.Effect.{Effect}
 use Rattle.lpt_memory.specs.Effects.{answer}
 use Rattle.lpt_memory.specs.Meanings.{meaning}
@@ -27,21 +28,23 @@ use Rattle.lpt_journal.specs.Senders.{least_free, open_count, packets_made, coun
 abbrev pub effect_of : Config → Contents → List ℕ → Effect
 effect_of c ms m = answer (meaning c.apid (sizes_of ms) m) ms
 
--- how the execution of a message ends now; a report of data could be opened under a name of the
+-- how a message ends that leaves so now; a report of data could be opened under a name of the
 -- message's own source
-abbrev pub ending_of : Config → Contents → History → List ℕ → Ending
-ending_of c first h m =
-    ending c.part_size (is_some (least_free h Down (request_source c.apid m)))
-    (nat_lt (open_count h Down) (limits c h Craft).outgoing) (effect_of c (memories c first h) m)
+abbrev pub ending_of : Config → Contents → History → Leaving → List ℕ → Ending
+ending_of c first h how m =
+    ending_by how
+    (ending c.part_size (is_some (least_free h Down (request_source c.apid m)))
+    (nat_lt (open_count h Down) (limits c h Craft).outgoing) (effect_of c (memories c first h) m))
 
--- how the execution of the oldest request ends now; if there is none, it is refused
-abbrev pub front_ending : Config → Contents → History → Ending
-front_ending c first h = option_map_or (λ r. ending_of c first h r.message) (front_job c h) Silent
+-- how the oldest request ends that leaves so now; if there is none, that is refused
+abbrev pub front_ending : Config → Contents → History → Leaving → Ending
+front_ending c first h how =
+    option_map_or (λ r. ending_of c first h how r.message) (front_job c h) Silent
 
 -- its reports
-abbrev pub front_reports : Config → Contents → History → List Report
-front_reports c first h =
-    option_map_or (λ r. message_reports c.apid r.message (ending_of c first h r.message))
+abbrev pub front_reports : Config → Contents → History → Leaving → List Report
+front_reports c first h how =
+    option_map_or (λ r. message_reports c.apid r.message (ending_of c first h how r.message))
     (front_job c h) []
 
 -- the source that its reports go to: that of its own header
@@ -72,28 +75,29 @@ reports_after c peer packets time (r ∷ rs) =
     (r, report_after c peer packets time r)
     ∷ reports_after c peer (with_all packets (report_after c peer packets time r ∷ [])) time rs
 
--- the reports of the oldest request's execution, with their packets
-abbrev pub front_packets : Config → Contents → History → List (Report × List ℕ)
-front_packets c first h =
+-- the reports of the oldest request, with their packets
+abbrev pub front_packets : Config → Contents → History → Leaving → List (Report × List ℕ)
+front_packets c first h how =
     reports_after c (front_source c h) (packets_made h Down) (clock c h Craft)
-    (front_reports c first h)
+    (front_reports c first h how)
 
 -- the report of data that is opened, as it is too long for the link: its name, which is of the
 -- request's own source, and its packet
-abbrev pub front_opened : Config → Contents → History → Option (Name × List ℕ)
-front_opened c first h =
+abbrev pub front_opened : Config → Contents → History → Leaving → Option (Name × List ℕ)
+front_opened c first h how =
     opened_of (least_free h Down (front_source c h))
-    (large_packets c.part_size (front_packets c first h))
+    (large_packets c.part_size (front_packets c first h how))
 
--- what the execution answers
-abbrev pub front_applied : Config → Contents → History → Applied
-front_applied c first h = applied_of (front_ending c first h) (front_opened c first h)
+-- what it answers
+abbrev pub front_applied : Config → Contents → History → Leaving → Applied
+front_applied c first h how =
+    applied_of (front_ending c first h how) (front_opened c first h how)
 
 -- what it puts on the link
-abbrev pub front_puts : Config → Contents → History → List SentPacket
-front_puts c first h =
+abbrev pub front_puts : Config → Contents → History → Leaving → List SentPacket
+front_puts c first h how =
     map (λ b. record { direction = Down; octets = b })
-    (link_packets c.part_size (front_packets c first h))
+    (link_packets c.part_size (front_packets c first h how))
 
 -- the opening of a name and a message that go down
 abbrev pub opened_down : (place : ℕ) → Option (Name × List ℕ) → List Opening
@@ -102,5 +106,5 @@ opened_down place (Some x) =
     record { place = place; direction = Down; name = x.0; message = x.1 } ∷ []
 
 -- what it opens
-abbrev pub front_opens : Config → Contents → History → List Opening
-front_opens c first h = opened_down (length h) (front_opened c first h)
+abbrev pub front_opens : Config → Contents → History → Leaving → List Opening
+front_opens c first h how = opened_down (length h) (front_opened c first h how)

@@ -1,5 +1,5 @@
 -- What holds of every legal journal.
-use Rattle.std.specs.Prelude.{◌≡◌, ◌↔◌, ℕ, suc, ◌-◌, ◌<◌, ◌≤◌, Bool, true, List, length, drop, map, slice_get, Option, Some, None, is_some, Contains}
+use Rattle.std.specs.Prelude.{◌≡◌, ◌↔◌, ℕ, suc, ◌-◌, ◌<◌, ◌≤◌, Bool, true, false, List, length, drop, map, slice_get, Option, Some, None, is_some, Contains}
 use Rattle.std.specs.List.{filter}
 use Rattle.std.specs.List.Sorted.{IsStrictlyIncreasing}
 use Rattle.std.specs.Option.{option_and_then}
@@ -22,7 +22,7 @@ use Rattle.lpt_events.specs.declared.outcome.Outcome.TheVariants.{Broken, Ignore
 use Rattle.lpt_events.specs.declared.outcome.Why.TheVariants.{Unreadable, Idle, ForeignApid, BadPart}
 use Rattle.lpt_events.specs.Arrivals.{APart}
 use Rattle.lpt_events.specs.MadePackets.{nth_named}
-use Rattle.lpt_acts.specs.Acts.{Act, Plain, Deliver}
+use Rattle.lpt_acts.specs.Acts.{Leaving, Execute, Act, Plain, Deliver}
 use Rattle.lpt_events.specs.declared.entry.Opening.{Opening}
 use Rattle.lpt_events.specs.declared.entry.Release.{Release}
 use Rattle.lpt_events.specs.declared.reply.Answer.TheVariants.{Delivered}
@@ -33,7 +33,7 @@ use Rattle.lpt_journal.specs.Senders.{current}
 use Rattle.lpt_journal.specs.Receivers.{heard}
 use Rattle.lpt_journal.specs.Delivery.{outcome}
 use Rattle.lpt_journal.specs.Releases.{releases}
-use Rattle.lpt_journal.specs.Jobs.{went_up, executed, left_by, memories}
+use Rattle.lpt_journal.specs.Jobs.{went_up, executed, that_left, left_by, memories}
 use Rattle.lpt_events.specs.Configs.{IsConfig}
 use Rattle.lpt_journal.specs.Replies.{plain_packet, history_after}
 use Rattle.lpt_journal.specs.Legal.{Legal}
@@ -194,13 +194,32 @@ pub record MemoriesFollow (c : Config) (first : Contents) (h : History) : Type 0
   pub in_order : IsStrictlyIncreasing (map (λ r. r.place) (executed c h))
   pub left : memories c first h ≡ left_by c.apid (map (λ r. r.message) (executed c h)) first
 
+-- ---- the queue
+
+-- whether one that leaves so is executed
+abbrev pub is_executed : Leaving → Bool
+is_executed Execute = true
+is_executed _ = false
+
+-- Each request that left the queue, executed, refused or dropped, is one that the spacecraft
+-- released. They left in order of release, none of them twice; and the executed requests are those
+-- of them that left so.
+pub record QueueFollows (c : Config) (h : History) : Type 0 where
+  pub released : (k : ℕ) (x : Leaving × Release)
+      → slice_get (that_left c h) k ≡ Some x
+      → Contains (filter (λ r. went_up r.of) (releases c h)) x.1
+  pub in_order : IsStrictlyIncreasing (map (λ x. x.1.place) (that_left c h))
+  pub executed : executed c h
+      ≡ map (λ x. x.1) (filter (λ x. is_executed x.0) (that_left c h))
+
 -- ---- the main theorem
 
 -- Every part on its way or heard is of the message last opened under its name. Each large message
 -- that was released is the one last opened under its name, and that once; each plain request that
 -- was released is one that ground had asked for. So nothing is executed that ground didn't send.
 -- Deliveries are and were sound. The memories are their first content, changed by the executed
--- requests in order of release.
+-- requests in order of release. What left the queue otherwise was released too, and nothing leaves
+-- it twice.
 pub record Holds (c : Config) (first : Contents) (h : History) : Type 0 where
   pub parts : PartsAreCurrent c h
   pub messages : EachIsLastOpened c h
@@ -210,6 +229,7 @@ pub record Holds (c : Config) (first : Contents) (h : History) : Type 0 where
   pub deliveries : DeliveriesAreSound c h
   pub delivered : DeliveriesWereSound c.mode h
   pub memories : MemoriesFollow c first h
+  pub queue : QueueFollows c h
 
 -- it holds of every legal journal, whatever its events, their order and their number
 abbrev pub Headline : Type 0

@@ -13,7 +13,7 @@ use Rattle.lpt_events.specs.Lanes.{same_direction}
 use Rattle.lpt_events.specs.Workers.{same_worker}
 use Rattle.lpt_events.specs.declared.config.Config.{Config}
 use Rattle.lpt_events.specs.declared.entry.Release.{Release}
-use Rattle.lpt_acts.specs.Acts.{Act, Claim, Commit, Apply}
+use Rattle.lpt_acts.specs.Acts.{Leaving, Execute, Act, Claim, Commit, Apply}
 use Rattle.lpt_events.specs.declared.reply.Answer.{Answer}
 use Rattle.lpt_events.specs.declared.reply.Answer.TheVariants.{Committed}
 use Rattle.lpt_events.specs.declared.side.Side.{Side}
@@ -53,12 +53,13 @@ abbrev pub jobs_claimed : History → ℕ
 jobs_claimed [] = 0
 jobs_claimed (x ∷ h) = if restarts x.event Craft then 0 else claimed_after x.event (jobs_claimed h)
 
--- how many jobs were executed after an event
+-- how many jobs have left after an event
 abbrev pub applied_after : Act → ℕ → ℕ
-applied_after Apply before = before + 1
+applied_after (Apply how) before = before + 1
 applied_after _ before = before
 
--- how many jobs were executed since the spacecraft was last restarted; they are the oldest
+-- how many jobs have left since the spacecraft was last restarted, executed or not; they are the
+-- oldest
 abbrev pub jobs_applied : History → ℕ
 jobs_applied [] = 0
 jobs_applied (x ∷ h) = if restarts x.event Craft then 0 else applied_after x.event (jobs_applied h)
@@ -97,23 +98,36 @@ is_committed (x ∷ h) job =
 
 -- ---- execution
 
--- the oldest job that isn't executed
+-- the oldest job that hasn't left
 abbrev pub front_job : Config → History → Option Release
 front_job c h = slice_get (jobs c h) (jobs_applied h)
 
 -- what an event executes, if this job is the oldest
 abbrev pub executed_now : Act → Option Release → List Release
-executed_now Apply (Some r) = r ∷ []
+executed_now (Apply Execute) (Some r) = r ∷ []
 executed_now _ front = []
 
 -- the released requests that an entry executes after this history
 abbrev pub executed_by : Config → Recorded → History → List Release
 executed_by c x h = executed_now x.event (front_job c h)
 
+-- what left the queue, in its order, if an event takes this of the oldest job
+abbrev pub all_taken : {A : Type 0} → (Act → Option Release → List A) → Config → History → List A
+all_taken now c [] = []
+all_taken now c (x ∷ h) = with_all (all_taken now c h) (now x.event (front_job c h))
+
 -- the released requests that were executed, in their order
 abbrev pub executed : Config → History → List Release
-executed c [] = []
-executed c (x ∷ h) = with_all (executed c h) (executed_by c x h)
+executed c h = all_taken executed_now c h
+
+-- how an event lets this job leave, if it is the oldest
+abbrev pub left_now : Act → Option Release → List (Leaving × Release)
+left_now (Apply how) (Some r) = (how, r) ∷ []
+left_now _ front = []
+
+-- the released requests that have left, each with how it did, in their order
+abbrev pub that_left : Config → History → List (Leaving × Release)
+that_left c h = all_taken left_now c h
 
 -- what requests to this APID leave of memories, executed one after the other
 abbrev pub left_by : ℕ → List (List ℕ) → Contents → Contents

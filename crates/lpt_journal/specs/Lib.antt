@@ -8,6 +8,7 @@ pub mod Hands
 pub mod Headline
 pub mod Jobs
 pub mod Journal
+pub mod Leavings
 pub mod Legal
 pub mod Link
 pub mod Receivers

@@ -68,7 +68,7 @@ reasons c h (Expire side which) =
 reasons c h (Claim w) =
     (is_some (ticket c h w), HandFull) ∷ (nat_le (length (jobs c h)) (jobs_claimed h), NoJob) ∷ []
 reasons c h (Commit w) = (not (is_some (ticket c h w)), HandEmpty) ∷ []
-reasons c h Apply =
+reasons c h (Apply how) =
     (not (is_some (front_job c h)), NoJob)
     ∷ (not (is_committed h (jobs_applied h)), NotReady) ∷ []
 reasons c h (Retire d name) =

@@ -60,7 +60,7 @@ answer c first h (Expire side which) =
     expired_now (direction_to side) (given_up c h (direction_to side) which)
 answer c first h (Claim w) = Claimed (boot h Craft) (jobs_claimed h)
 answer c first h (Commit w) = committed_now (boot h Craft) (ticket c h w)
-answer c first h Apply = Applied (front_applied c first h)
+answer c first h (Apply how) = Applied (front_applied c first h how)
 answer c first h (Retire d name) = Retired
 answer c first h (Restart side) = Restarted (boot h side + 1)
 
@@ -130,7 +130,7 @@ puts c first h (Expire side which) =
     expiry_puts c h side (given_up c h (direction_to side) which)
 puts c first h (Claim w) = []
 puts c first h (Commit w) = []
-puts c first h Apply = front_puts c first h
+puts c first h (Apply how) = front_puts c first h how
 puts c first h (Retire d name) = []
 puts c first h (Restart side) = []
 
@@ -148,7 +148,7 @@ opens c first h (Tick side turn) = []
 opens c first h (Expire side which) = []
 opens c first h (Claim w) = []
 opens c first h (Commit w) = []
-opens c first h Apply = front_opens c first h
+opens c first h (Apply how) = front_opens c first h how
 opens c first h (Retire d name) = []
 opens c first h (Restart side) = []
 

@@ -129,7 +129,7 @@ makes (Tick side turn) = true
 makes (Expire side which) = true
 makes (Claim w) = true
 makes (Commit w) = true
-makes Apply = true
+makes (Apply how) = true
 makes (Retire d name) = true
 makes (Restart side) = true
 

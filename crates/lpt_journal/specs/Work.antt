@@ -17,7 +17,7 @@ use Rattle.lpt_events.specs.declared.side.Side.TheVariants.{Craft}
 use Rattle.lpt_events.specs.declared.worker.Worker.{Worker}
 use Rattle.lpt_journal.specs.Hands.{hand}
 use Rattle.lpt_journal.specs.Headline.{before}
-use Rattle.lpt_journal.specs.Jobs.{boot, jobs, jobs_claimed, jobs_applied, ticket, is_committed, executed_by, executed, memories}
+use Rattle.lpt_journal.specs.Jobs.{boot, jobs, jobs_claimed, jobs_applied, ticket, is_committed, executed_by, executed, that_left, memories}
 use Rattle.lpt_journal.specs.Journal.{Recorded, History}
 use Rattle.lpt_journal.specs.Legal.{Legal}
 use Rattle.lpt_journal.specs.Link.{sent, tags, is_held, is_damaged}
@@ -53,6 +53,7 @@ pub record IsSameBut (c : Config) (first : Contents) (w : Worker) (new old : His
   pub claimed : jobs_claimed new ≡ jobs_claimed old
   pub applied : jobs_applied new ≡ jobs_applied old
   pub executed : executed c new ≡ executed c old
+  pub left : that_left c new ≡ that_left c old
   pub memories : memories c first new ≡ memories c first old
   pub boots : (side : Side) → boot new side ≡ boot old side
   pub sent : sent new ≡ sent old

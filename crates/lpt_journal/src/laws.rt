@@ -2,6 +2,7 @@
 
 ghost use Rattle.lpt_journal.specs.Abortions.{AbortionIsFinal};
 ghost use Rattle.lpt_journal.specs.Headline.{Headline};
+ghost use Rattle.lpt_journal.specs.Leavings.{LeavingsAreTold};
 ghost use Rattle.lpt_journal.specs.Whole.{NothingIsWithheld};
 ghost use Rattle.lpt_journal.specs.Work.{WorkIsOfItsBoot};
 
@@ -12,7 +13,8 @@ ghost use Rattle.lpt_journal.specs.Work.{WorkIsOfItsBoot};
 /// executed that ground didn't send. What is delivered is a message that contradicts nothing; it
 /// isn't read exactly if the link's noise left it. In strict mode alone a part breaks its
 /// reception off, and only one that isn't the next. The memories are their first content, changed
-/// by released requests, each executed at most once and in order of release.
+/// by released requests, each executed at most once and in order of release. What leaves the queue
+/// without being executed, refused or dropped, was released too, and nothing leaves it twice.
 pub fn headline()
     ensures { Headline }
 {}
@@ -37,4 +39,11 @@ pub fn nothing_is_withheld()
 /// and each request that was executed was released and committed in the same boot.
 pub fn work_is_of_its_boot()
     ensures { WorkIsOfItsBoot }
+{}
+
+/// Over every legal journal, a request that is refused is reported to its own source as failed,
+/// with the code that the program gave; of one that is dropped nothing is put or opened. Neither
+/// changes a memory.
+pub fn leavings_are_told()
+    ensures { LeavingsAreTold }
 {}

@@ -12,7 +12,7 @@ use Rattle.lpt_memory.specs.Requests.{front_load_area, front_range, front_head, 
 use Rattle.lpt_memory.specs.Meanings.{body_meaning, meaning}
 use Rattle.lpt_events.specs.Arrivals.{arrival}
 use Rattle.lpt_events.specs.declared.applied.Applied.TheVariants.{Done}
-use Rattle.lpt_acts.specs.Acts.{Act, Send, Plain, Take, Deliver, Claim, Commit, Apply}
+use Rattle.lpt_acts.specs.Acts.{Execute, Act, Send, Plain, Take, Deliver, Claim, Commit, Apply}
 use Rattle.lpt_events.specs.declared.fault.StepFault.TheVariants.{HandFull, HandEmpty, NoJob, NotReady}
 use Rattle.lpt_events.specs.declared.lane.Lane.TheVariants.{S1}
 use Rattle.lpt_events.specs.declared.outcome.Outcome.TheVariants.{PlainReleased, ReportNoted}
@@ -91,11 +91,11 @@ executed_load-reported =
 -- the pass, with events between that are refused
 abbrev asked_loads : List Act
 asked_loads =
-    Apply ∷ Plain 1 0 6 2 load ∷ Plain 1 0 6 2 clear
+    Apply Execute ∷ Plain 1 0 6 2 load ∷ Plain 1 0 6 2 clear
     ∷ Take S1 0 ∷ Deliver S1 ∷ Take S1 1 ∷ Deliver S1
     ∷ Commit W1 ∷ Claim W1 ∷ Claim W1 ∷ Claim W2
-    ∷ Commit W2 ∷ Claim W2 ∷ Apply
-    ∷ Commit W1 ∷ Apply ∷ Apply ∷ Apply ∷ []
+    ∷ Commit W2 ∷ Claim W2 ∷ Apply Execute
+    ∷ Commit W1 ∷ Apply Execute ∷ Apply Execute ∷ Apply Execute ∷ []
 
 -- nothing is executed before the first request's reading is there too
 pub asked_loads-given : (played usual asked_loads).given ≡
@@ -135,8 +135,8 @@ two_loads-left = ap (memories usual usual_memories) (recorded_is usual (reverse 
 -- two octets are dumped, then three
 abbrev dumps : List Act
 dumps =
-    Plain 1 0 6 5 (dump 2) ∷ Take S1 0 ∷ Deliver S1 ∷ Claim W1 ∷ Commit W1 ∷ Apply
-    ∷ Plain 1 0 6 5 (dump 3) ∷ Take S1 2 ∷ Deliver S1 ∷ Claim W2 ∷ Commit W2 ∷ Apply
+    Plain 1 0 6 5 (dump 2) ∷ Take S1 0 ∷ Deliver S1 ∷ Claim W1 ∷ Commit W1 ∷ Apply Execute
+    ∷ Plain 1 0 6 5 (dump 3) ∷ Take S1 2 ∷ Deliver S1 ∷ Claim W2 ∷ Commit W2 ∷ Apply Execute
     ∷ Send Down (own 0) 4 ∷ []
 
 -- one report is a packet; the other has one octet too many, and is opened under the least free name

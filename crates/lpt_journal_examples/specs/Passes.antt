@@ -6,7 +6,7 @@ use Rattle.lpt_packet.specs.declared.direction.Direction.TheVariants.{Up, Down}
 use Rattle.lpt_part.specs.declared.mode.Mode.TheVariants.{Any, Strict}
 use Rattle.lpt_events.specs.Configs.{IsConfig}
 use Rattle.lpt_events.specs.declared.config.Config.{Config}
-use Rattle.lpt_acts.specs.Acts.{Act, Open, Send, Plain, Finish, Lose, Damage, Take, Deliver, Tick, Expire, Claim, Commit, Apply, Retire, Restart, On, Back, Within}
+use Rattle.lpt_acts.specs.Acts.{Execute, Act, Open, Send, Plain, Finish, Lose, Damage, Take, Deliver, Tick, Expire, Claim, Commit, Apply, Retire, Restart, On, Back, Within}
 use Rattle.lpt_events.specs.declared.lane.Lane.TheVariants.{S1, S2, G1, G2}
 use Rattle.lpt_events.specs.declared.reply.Answer.{Answer}
 use Rattle.lpt_events.specs.declared.side.Side.TheVariants.{Ground, Craft}
@@ -174,7 +174,7 @@ abbrev pub executed_load : List Act
 executed_load =
     Plain 1 15 6 2 load
     ∷ Take S1 0 ∷ Deliver S1
-    ∷ Claim W1 ∷ Commit W1 ∷ Apply
+    ∷ Claim W1 ∷ Commit W1 ∷ Apply Execute
     ∷ Take G1 1 ∷ Deliver G1
     ∷ Take G1 2 ∷ Deliver G1
     ∷ Take G1 3 ∷ Deliver G1 ∷ []
@@ -194,7 +194,7 @@ abbrev pub two_loads : List Act
 two_loads =
     Plain 1 0 6 2 load ∷ Plain 1 0 6 2 clear
     ∷ Take S1 0 ∷ Deliver S1 ∷ Take S1 1 ∷ Deliver S1
-    ∷ Claim W1 ∷ Claim W2 ∷ Commit W2 ∷ Commit W1 ∷ Apply ∷ Apply ∷ []
+    ∷ Claim W1 ∷ Claim W2 ∷ Commit W2 ∷ Commit W1 ∷ Apply Execute ∷ Apply Execute ∷ []
 
 -- the memory with the second one's octets over the first one's
 abbrev pub cleared_memories : Contents
@@ -221,7 +221,7 @@ report_packet =
 abbrev pub large_report : List Act
 large_report =
     Plain 1 0 6 5 (dump 3) ∷ Take S1 0 ∷ Deliver S1
-    ∷ Claim W1 ∷ Commit W1 ∷ Apply
+    ∷ Claim W1 ∷ Commit W1 ∷ Apply Execute
     ∷ Send Down (own 0) 1 ∷ Send Down (own 0) 2 ∷ Send Down (own 0) 3 ∷ Send Down (own 0) 4
     ∷ Take G1 1 ∷ Deliver G1 ∷ Take G1 2 ∷ Deliver G1
     ∷ Take G1 3 ∷ Deliver G1 ∷ Take G1 4 ∷ Deliver G1 ∷ []

@@ -30,8 +30,8 @@ use Rattle.lpt_events.specs.Arrivals.{Arrival, NotRead, arrival_in}
 use Rattle.lpt_events.specs.declared.worker.Worker.{Worker}
 use Rattle.lpt_memory.specs.Memories.{Contents, sizes_of}
 use Rattle.lpt_memory.specs.Readings.{Job, Source}
-use Rattle.lpt_jobs.specs.Jobs.{head_of, is_claimed}
-use Rattle.lpt_node.specs.Jobs.{Execution, FrontIsFor, refusal_claim, job_claimed, job_committed, refusal_apply, job_executed}
+use Rattle.lpt_jobs.specs.Jobs.{head_of, is_claimed, without_front}
+use Rattle.lpt_node.specs.Jobs.{Execution, FrontIsFor, refusal_claim, job_claimed, job_committed, refusal_apply, job_executed, refused_front, not_executed}
 use Rattle.lpt_node.specs.Nodes.{NodeData, no_data}
 use Rattle.lpt_node.specs.declared.fault.NodeFault.{NodeFault}
 use Rattle.lpt_node.specs.Requests.{refusal_plain, plain_made}
@@ -39,7 +39,7 @@ use Rattle.lpt_node.specs.Sending.{refusal_open, refusal_send, refusal_finish, m
 use Rattle.lpt_node.specs.Times.{refusal_tick, turned_so, refusal_end, which_ends, expired_of}
 use Rattle.lpt_events.specs.declared.entry.Opening.{Opening}
 use Rattle.lpt_events.specs.declared.entry.Release.{Release}
-use Rattle.lpt_acts.specs.Acts.{Act, Setting, On, Back, Within, Open, Send, Plain, Finish, Lose, Damage, Take, Deliver, Tick, Expire, Claim, Commit, Apply, Retire, Restart}
+use Rattle.lpt_acts.specs.Acts.{Leaving, Execute, Refuse, Drop, Act, Setting, On, Back, Within, Open, Send, Plain, Finish, Lose, Damage, Take, Deliver, Tick, Expire, Claim, Commit, Apply, Retire, Restart}
 use Rattle.lpt_events.specs.declared.fault.StepFault.{StepFault}
 use Rattle.lpt_events.specs.declared.fault.StepFault.TheVariants as step
 use Rattle.lpt_events.specs.declared.reply.Answer.{Answer}
@@ -144,7 +144,7 @@ refusal_of c s (Expire side which) =
     option_map node_fault (refusal_end c (end_of s side) which)
 refusal_of c s (Claim w) = refusal_claim_by s.on_craft (ticket_of s.tickets w)
 refusal_of c s (Commit w) = refusal_commit_of (ticket_of s.tickets w)
-refusal_of c s Apply = option_map node_fault (refusal_apply s.on_craft)
+refusal_of c s (Apply how) = option_map node_fault (refusal_apply s.on_craft)
 refusal_of c s (Retire d name) = refusal_retire s d name
 refusal_of c s (Restart side) = None
 
@@ -329,9 +329,17 @@ add_opening os place None = os
 add_opening os place (Some x) =
     os ++ record { place = place; direction = Down; name = x.0; message = x.1 } ∷ []
 
--- the spacecraft has executed a job, and answered; these are the memories after it
-abbrev pub executed_on : ℕ → State → (NodeData × Execution) × Contents → State × Reply
-executed_on place s x = (
+-- the oldest job leaves so: the end after it with the answer, and the memories after it; they
+-- change only if it is executed
+abbrev pub job_left : Leaving → Config → NodeData → Contents
+    → (NodeData × Execution) × Contents
+job_left Execute c d ms = job_executed c d ms
+job_left (Refuse code) c d ms = (refused_front c d code, ms)
+job_left Drop c d ms = ((record d { jobs = without_front d.jobs }, not_executed), ms)
+
+-- the spacecraft has let a job leave, and answered; these are the memories after it
+abbrev pub left_on : ℕ → State → (NodeData × Execution) × Contents → State × Reply
+left_on place s x = (
   record s {
     on_craft = x.0.0;
     link = put_all s.link Down None x.0.1.packets;
@@ -368,7 +376,7 @@ abbrev pub IsReady : Config → State → Act → Type 0
 IsReady c s (Commit w) =
     IfSome (ticket_of s.tickets w)
     (λ t. t.boot ≡ s.on_craft.boot → IsTrue (is_claimed s.on_craft.jobs t.job))
-IsReady c s Apply = FrontIsFor (head_of s.on_craft.jobs.jobs) c.apid s.memories
+IsReady c s (Apply how) = FrontIsFor (head_of s.on_craft.jobs.jobs) c.apid s.memories
 IsReady c s e = Unit {0}
 
 -- what an act at this place makes of the state, and its reply
@@ -386,6 +394,6 @@ after c place s (Tick side turn) = after_tick s side turn
 after c place s (Expire side which) = after_expire c s side which
 after c place s (Claim w) = claimed_on s w (job_claimed s.on_craft)
 after c place s (Commit w) = committed_on c s w (ticket_of s.tickets w)
-after c place s Apply = executed_on place s (job_executed c s.on_craft s.memories)
+after c place s (Apply how) = left_on place s (job_left how c s.on_craft s.memories)
 after c place s (Retire d name) = after_retire s d name
 after c place s (Restart side) = after_restart s side

@@ -10,7 +10,8 @@ use Rattle.lpt_events.specs.declared.side.Side.TheVariants.{Ground, Craft}
 use Rattle.lpt_events.proofs.LaneLemmas.{same_direction-true}
 use Rattle.lpt_journal.specs.Jobs.{went_up}
 use Rattle.lpt_journal.proofs.TestLemmas.{place_in, no_place}
-use Rattle.lpt_apart.specs.Facts.{Fact, Opened, Asked, Released, Aborted, Executed, Retired, Restarted, Log, is_same, message_awaited, waiting, requests_executed, IsDue, AllDue}
+use Rattle.lpt_acts.specs.Acts.{Execute, Refuse, Drop}
+use Rattle.lpt_apart.specs.Facts.{Fact, Opened, Asked, Released, Aborted, Left, Retired, Restarted, Log, is_same, message_awaited, waiting, requests_executed, IsDue, AllDue}
 use Rattle.lpt_passes.specs.Asked.{IsOfGroundIn, ExecutedWasAsked}
 
 -- what was ground's is so after a fact
@@ -54,7 +55,7 @@ awaited_opened to (x ∷ log) name m e = go x refl e (awaited_opened to log name
   go (Asked b) is k rest = later (rest k)
   go (Released of n) is k rest = later (rest (kept _ k))
   go (Aborted d i) is k rest = later (rest (kept _ k))
-  go Executed is k rest = later (rest k)
+  go (Left how) is k rest = later (rest k)
   go (Retired d i) is k rest = later (rest (kept _ k))
   go (Restarted side) is k rest = later (rest k)
 
@@ -130,7 +131,7 @@ waits_after (Asked b) log k m due had f = had k m f
 waits_after (Released of n) log k m due had f =
     released_waits of n log k m (went_up of) refl due had f
 waits_after (Aborted d i) log k m due had f = had k m f
-waits_after Executed log k m due had f =
+waits_after (Left how) log k m due had f =
     let it = fewer (waiting log) k m f in had it.0 m it.1
 waits_after (Retired d i) log k m due had f = had k m f
 waits_after (Restarted Ground) log k m due had f = had k m f
@@ -152,11 +153,13 @@ done_after (Opened d i n) log k m waits had f = had k m f
 done_after (Asked b) log k m waits had f = had k m f
 done_after (Released of n) log k m waits had f = had k m f
 done_after (Aborted d i) log k m waits had f = had k m f
-done_after Executed log k m waits had f =
+done_after (Left Execute) log k m waits had f =
     elim (in_front (requests_executed log) (take 1 (waiting log)) k m f) [
       | inl a ↦ had a.0 m a.1
       | inr b ↦ waits b.0 m (first (waiting log) b.0 m b.1)
     ]
+done_after (Left (Refuse code)) log k m waits had f = had k m f
+done_after (Left Drop) log k m waits had f = had k m f
 done_after (Retired d i) log k m waits had f = had k m f
 done_after (Restarted side) log k m waits had f = had k m f
 

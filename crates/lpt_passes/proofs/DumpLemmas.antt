@@ -23,12 +23,10 @@ use Rattle.lpt_events.specs.declared.worker.Worker.{Worker}
 use Rattle.lpt_node.specs.declared.accepted.Accepted.{Accepted}
 use Rattle.lpt_node.specs.Accepting.{packet_accepted}
 use Rattle.lpt_node.specs.Faults.{node_fault}
-use Rattle.lpt_jobs.specs.Jobs.{head_of}
 use Rattle.lpt_node.specs.Jobs.{Execution, refusal_apply}
-use Rattle.lpt_node.specs.Jobs as node_jobs
 use Rattle.lpt_node.specs.Nodes.{NodeData}
 use Rattle.lpt_node.specs.Requests.{plain_made}
-use Rattle.lpt_model.specs.State.{State, add_opening, refusal_of, released_of}
+use Rattle.lpt_model.specs.State.{State, add_opening, job_left, refusal_of, released_of}
 use Rattle.lpt_model.specs.Tickets.{ticket_of}
 use Rattle.lpt_journal.specs.Executions.{front_opens}
 use Rattle.lpt_journal.specs.Jobs.{left_by}
@@ -37,15 +35,15 @@ use Rattle.lpt_journal.specs.Replies.{entry, history_after}
 use Rattle.lpt_journal.specs.Senders.{opened}
 use Rattle.lpt_journal.proofs.TestLemmas.{no_place}
 use Rattle.lpt_apart.specs.Ends.{Ends, node_at}
-use Rattle.lpt_apart.specs.Facts.{Fact, Opened, Asked, Released, Aborted, Executed, Retired, Restarted, Log, with_abortion, requests_executed, AllDue, IsDue}
+use Rattle.lpt_apart.specs.Facts.{Fact, Opened, Asked, Released, Aborted, Left, Retired, Restarted, Log, with_abortion, requests_executed, AllDue, IsDue}
 use Rattle.lpt_apart.specs.Moves.{Pair, Move, Do, Free, pair_after, came_to, CanMove, CanMoveAll}
 use Rattle.lpt_apart.specs.Steps.{Open, Send, Plain, Finish, Accept, Tick, Expire, Claim, Commit, Apply, Retire, Restart, with_release, with_report, committed_on}
 use Rattle.lpt_apart.specs.Told.{with_openings}
-use Rattle.lpt_apart.proofs.Lessening.{executed_less}
+use Rattle.lpt_apart.proofs.Lessening.{left_less}
 use Rattle.lpt_apart.proofs.Logs.{opened_told}
 use Rattle.lpt_apart.proofs.Moving.{apart, ends_apart_keep_the_promise}
 use Rattle.lpt_apart.proofs.Queues.{executed_told}
-use Rattle.lpt_apart.proofs.Telling.{execution_told}
+use Rattle.lpt_apart.proofs.Telling.{leaving_told}
 use Rattle.lpt_apart.proofs.Ties.{IsLonger, longer}
 use Rattle.lpt_reported.specs.Reported.{IsTelemetryDown, WasOpened}
 use Rattle.lpt_reported.proofs.CarriedLemmas.{opened_dump_is_memory}
@@ -73,15 +71,15 @@ told_so [] name m e = absurd cc
 told_so (o ∷ rest) name m e = (o, refl, ap of_log e)
 
 -- the dump that an execution opened the report of
-opened_dump : (c : Config) (first : Contents) (xs : List Move) (name : Name) (m : List ℕ) (to : ℕ)
-    (body : List ℕ)
+opened_dump : (c : Config) (first : Contents) (xs : List Move) (how : act.Leaving) (name : Name)
+    (m : List ℕ) (to : ℕ) (body : List ℕ)
     → IsConfig c
-    → CanMoveAll c first (Do Apply ∷ xs)
-    → (node_jobs.job_executed c (came_to c first xs).ends.on_craft
+    → CanMoveAll c first (Do (Apply how) ∷ xs)
+    → (job_left how c (came_to c first xs).ends.on_craft
     (came_to c first xs).ends.memories).0.1.opened ≡ Some (name, m)
     → IsTelemetryDown c (record { direction = Down; octets = m }) to 6 6 body
-    → IsDumpedIn c first (pair_after c (came_to c first xs) (Do Apply)).ends.log to body
-opened_dump c first xs name m to body good can opens is =
+    → IsDumpedIn c first (pair_after c (came_to c first xs) (Do (Apply how))).ends.log to body
+opened_dump c first xs how name m to body good can opens is =
     let p : Pair = came_to c first xs in
     let but = (apart c first ⊥ xs good (λ u. absurd u) can.0).but in
     let w : Ends = but.whole in
@@ -91,43 +89,45 @@ opened_dump c first xs name m to body good can opens is =
     let es : List Act = f.events in
     let h : History = history_after c first es in
     let opened_by : Ends → Option (Name × List ℕ) =
-    λ e. (node_jobs.job_executed c e.on_craft e.memories).0.1.opened in
+    λ e. (job_left how c e.on_craft e.memories).0.1.opened in
     let can_whole : refusal_apply w.on_craft ≡ None =
     subst (λ (e : Ends). refusal_apply e.on_craft ≡ None) (sym but.is) can.1 in
-    let free : refusal_of c s act.Apply ≡ None =
+    let free : refusal_of c s (act.Apply how) ≡ None =
     ap (option_map node_fault) (ap (λ (e : Ends). refusal_apply e.on_craft) f.is ∙ can_whole) in
-    let more : IsLonger c first s es act.Apply =
-    longer c first s es act.Apply good f.tied.legal f.tied.shown tt free in
-    let o = (node_jobs.job_executed c s.on_craft s.memories).0.1.opened in
+    let more : IsLonger c first s es (act.Apply how) =
+    longer c first s es (act.Apply how) good f.tied.legal f.tied.shown tt free in
+    let o = (job_left how c s.on_craft s.memories).0.1.opened in
     let same : o ≡ Some (name, m) =
     ap opened_by f.is
     ∙ sym (ap (λ (x : (NodeData × Execution) × Contents). x.0.1.opened)
-    (executed_less c k w.on_craft w.memories (head_of w.on_craft.jobs.jobs)))
+    (left_less how c k w.on_craft w.memories))
     ∙ ap opened_by but.is
     ∙ opens in
-    let made : add_opening (opened h) (length h) o ≡ opened (entry c first h act.Apply ∷ h) =
+    let made : add_opening (opened h) (length h) o ≡ opened (entry c first h (act.Apply how) ∷ h) =
     ap (λ (os : List Opening). add_opening os (length h) o) (sym f.tied.shown.opened)
     ∙ more.shown.opened in
     let it =
-    told_so (front_opens c first h) name m
-    (opened_told (opened h) (length h) o (front_opens c first h) [] made
+    told_so (front_opens c first h how) name m
+    (opened_told (opened h) (length h) o (front_opens c first h how) [] made
     ∙ ap (λ (x : Option (Name × List ℕ)). with_report [] x) same) in
-    let was : WasOpened c first (act.Apply ∷ es) m = record {
+    let was : WasOpened c first (act.Apply how ∷ es) m = record {
       number = 0;
-      entry = entry c first h act.Apply;
+      entry = entry c first h (act.Apply how);
       is_there = refl;
+      how = how;
       applies = refl;
       place = 0;
       opening = it.0;
       opens = it.1;
       is = it.2;
     } in
-    of_journal c first (history_after c first (act.Apply ∷ es)) _ to body
-    ((λ i. requests_executed (Executed ∷ with_report ((sym (ap (λ (e : Ends). e.log) but.is)) i)
+    of_journal c first (history_after c first (act.Apply how ∷ es)) _ to body
+    ((λ i. requests_executed (Left how ∷ with_report ((sym (ap (λ (e : Ends). e.log) but.is)) i)
     ((opens ∙ sym same) i)))
-    ∙ sym (ap requests_executed (execution_told c first s w.log es f.tied.shown f.tied.tells more))
-    ∙ executed_told c first (act.Apply ∷ es) more.legal)
-    (opened_dump_is_memory c first (act.Apply ∷ es) m to body good more.legal was is)
+    ∙ sym (ap requests_executed
+    (leaving_told c first s w.log es f.tied.shown f.tied.tells how more))
+    ∙ executed_told c first (act.Apply how ∷ es) more.legal)
+    (opened_dump_is_memory c first (act.Apply how ∷ es) m to body good more.legal was is)
 
 -- ---- what was dumped stays so
 
@@ -172,8 +172,8 @@ Stood log name m = (k : ℕ) × (slice_get log k ≡ Some (Opened Down name m))
 abbrev IsMade : Config → Pair → Move → Name → List ℕ → Type 0
 IsMade c p x name m =
     (x ≡ Do (Open Down name m))
-    ⊎ ((x ≡ Do Apply)
-    × ((node_jobs.job_executed c p.ends.on_craft p.ends.memories).0.1.opened ≡ Some (name, m)))
+    ⊎ ((how : act.Leaving) × (x ≡ Do (Apply how))
+    × ((job_left how c p.ends.on_craft p.ends.memories).0.1.opened ≡ Some (name, m)))
 
 -- what isn't the newest fact stood there
 stood : (y z : Fact) (log : Log) (k : ℕ)
@@ -255,12 +255,13 @@ new_opening c p (Do (Expire side which)) name m k e =
 new_opening c p (Do (Claim w)) name m k e = inl (k, e)
 new_opening c p (Do (Commit w)) name m k e =
     inl (committed_stood c p.ends w (ticket_of p.ends.tickets w) name m k e)
-new_opening c p (Do Apply) name m k e =
-    let o = (node_jobs.job_executed c p.ends.on_craft p.ends.memories).0.1.opened in
-    let before = stood Executed (Opened Down name m) (with_report p.ends.log o) k (λ same. cc) e in
+new_opening c p (Do (Apply how)) name m k e =
+    let o = (job_left how c p.ends.on_craft p.ends.memories).0.1.opened in
+    let before =
+    stood (Left how) (Opened Down name m) (with_report p.ends.log o) k (λ same. cc) e in
     elim (reported_is p.ends.log o name m before.0 before.1) [
       | inl old ↦ inl old
-      | inr new ↦ inr (inr (refl, new))
+      | inr new ↦ inr (inr (how, refl, new))
     ]
 new_opening c p (Do (Retire d i)) name m k e =
     inl (stood (Retired d i) (Opened Down name m) p.ends.log k (λ same. cc) e)
@@ -292,9 +293,9 @@ all_opened_dump c first (x ∷ xs) to name m body k good can none f is =
         | inl opens ↦ absurd (none 0 name m body (ap Some opens) is)
         | inr runs ↦
             subst (λ (y : Move). IsDumpedIn c first (pair_after c p y).ends.log to body)
-            (sym runs.0)
-            (opened_dump c first xs name m to body good
-            (can.0, subst (λ (y : Move). CanMove c p y) runs.0 can.1) runs.1 is)
+            (sym runs.1)
+            (opened_dump c first xs runs.0 name m to body good
+            (can.0, subst (λ (y : Move). CanMove c p y) runs.1 can.1) runs.2 is)
       ]
     ]
 

@@ -18,16 +18,16 @@ use Rattle.lpt_node.specs.declared.accepted.Accepted.{Accepted}
 use Rattle.lpt_node.specs.declared.expired.Expired.{Expired}
 use Rattle.lpt_node.specs.Accepting.{packet_accepted}
 use Rattle.lpt_node.specs.Jobs.{Execution}
-use Rattle.lpt_node.specs.Jobs as node_jobs
+use Rattle.lpt_acts.specs.Acts.{Leaving, Execute, Refuse, Drop}
 use Rattle.lpt_node.specs.Nodes.{NodeData}
 use Rattle.lpt_node.specs.Requests.{plain_made}
 use Rattle.lpt_node.specs.Times.{expired_of, which_ends}
-use Rattle.lpt_model.specs.State.{released_of}
+use Rattle.lpt_model.specs.State.{job_left, released_of}
 use Rattle.lpt_model.specs.Tickets.{ticket_of}
 use Rattle.lpt_apart.specs.Ends.{Ends, node_at}
-use Rattle.lpt_apart.specs.Facts.{Fact, Opened, Asked, Released, Aborted, Executed, Retired, Restarted, Log, with_abortion, waiting, requests_executed}
+use Rattle.lpt_apart.specs.Facts.{Fact, Opened, Asked, Released, Aborted, Left, Retired, Restarted, Log, with_abortion, waiting, requests_executed}
 use Rattle.lpt_apart.specs.Moves.{Pair, Move, Do, Free, pair_after, came_to, CanMoveAll}
-use Rattle.lpt_apart.specs.Steps.{Open, Send, Plain, Finish, Accept, Tick, Expire, Claim, Commit, Apply, Retire, Restart, with_release, with_report, requested_on, accepted_on, expired_on, committed_on, executed_on}
+use Rattle.lpt_apart.specs.Steps.{Open, Send, Plain, Finish, Accept, Tick, Expire, Claim, Commit, Apply, Retire, Restart, with_release, with_report, requested_on, accepted_on, expired_on, committed_on, left_on}
 use Rattle.lpt_journal.proofs.TestLemmas.{no_place}
 
 -- what a log has as executed another has too, at the same place
@@ -50,7 +50,9 @@ in_front (x ∷ xs) ys zero y e = e
 in_front (x ∷ xs) ys (suc k) y e = in_front xs ys k y e
 
 one_more : (x : Fact) (log : Log) → Grows log (x ∷ log)
-one_more Executed log k m e = in_front (requests_executed log) (take 1 (waiting log)) k m e
+one_more (Left Execute) log k m e = in_front (requests_executed log) (take 1 (waiting log)) k m e
+one_more (Left (Refuse code)) log k m e = e
+one_more (Left Drop) log k m e = e
 one_more (Opened d i n) log k m e = e
 one_more (Asked b) log k m e = e
 one_more (Released of n) log k m e = e
@@ -90,9 +92,10 @@ expire_grows : (e : Ends) (side : Side) (x : NodeData × Expired)
     → Grows e.log (expired_on e side x).log
 expire_grows e side x = one_more (Aborted (direction_to side) x.1.name) e.log
 
-apply_grows : (e : Ends) (x : (NodeData × Execution) × Contents) → Grows e.log (executed_on e x).log
-apply_grows e x =
-    λ k m f. one_more Executed (with_report e.log x.0.1.opened) k m
+apply_grows : (how : Leaving) (e : Ends) (x : (NodeData × Execution) × Contents)
+    → Grows e.log (left_on how e x).log
+apply_grows how e x =
+    λ k m f. one_more (Left how) (with_report e.log x.0.1.opened) k m
     (report_grows e.log x.0.1.opened k m f)
 
 -- whatever move comes
@@ -114,8 +117,8 @@ move_grows c p (Do (Expire side which)) =
     (expired_of side c (node_at p.ends side) (which_ends c (node_at p.ends side) which))
 move_grows c p (Do (Claim w)) = same p.ends.log
 move_grows c p (Do (Commit w)) = commit_grows c p.ends w (ticket_of p.ends.tickets w)
-move_grows c p (Do Apply) =
-    apply_grows p.ends (node_jobs.job_executed c p.ends.on_craft p.ends.memories)
+move_grows c p (Do (Apply how)) =
+    apply_grows how p.ends (job_left how c p.ends.on_craft p.ends.memories)
 move_grows c p (Do (Retire d name)) = one_more (Retired d name) p.ends.log
 move_grows c p (Do (Restart side)) = one_more (Restarted side) p.ends.log
 move_grows c p (Free Up name) = same p.ends.log

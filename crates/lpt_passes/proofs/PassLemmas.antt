@@ -93,12 +93,12 @@ heard_was_executed c first xs to subtype said good can hears success =
     success in
     let run = done.execution in
     record {
-      place = run.place;
+      place = run.did.place;
       message = done.release.message;
       is_executed =
-          ap (λ ms. slice_get ms run.place) w.told
-          ∙ mapped (λ (r : Release). r.message) (was_executed c h) run.place done.release
-          run.is_executed;
+          ap (λ ms. slice_get ms run.did.place) w.told
+          ∙ mapped (λ (r : Release). r.message) (was_executed c h) run.did.place done.release
+          run.did.is_executed;
       is_named = record { of_source = done.of_source; is_request = done.is_request };
     }
 
@@ -119,17 +119,17 @@ of_journal c first h log to body told done =
     let run = done.execution in
     let messages : List Release → List (List ℕ) = map (λ r. r.message) in
     let before : List Release = was_executed c (drop (suc run.number) h) in
-    let same : messages before ≡ take run.place (requests_executed log) =
-    ap messages run.so_far
-    ∙ mapped_front (λ (r : Release). r.message) run.place (was_executed c h)
-    ∙ ap (λ ms. take run.place ms) (sym told) in
+    let same : messages before ≡ take run.did.place (requests_executed log) =
+    ap messages run.did.so_far
+    ∙ mapped_front (λ (r : Release). r.message) run.did.place (was_executed c h)
+    ∙ ap (λ ms. take run.did.place ms) (sym told) in
     record {
-      place = run.place;
+      place = run.did.place;
       message = done.release.message;
       is_executed =
-          ap (λ ms. slice_get ms run.place) told
-          ∙ mapped (λ (r : Release). r.message) (was_executed c h) run.place done.release
-          run.is_executed;
+          ap (λ ms. slice_get ms run.did.place) told
+          ∙ mapped (λ (r : Release). r.message) (was_executed c h) run.did.place done.release
+          run.did.is_executed;
       of_source = done.of_source;
       memory = done.memory;
       ranges = done.ranges;

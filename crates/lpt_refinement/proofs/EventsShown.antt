@@ -24,7 +24,7 @@ use Rattle.lpt_model.specs.State.{State, after, end_of, expired_on}
 use Rattle.lpt_refinement.specs.Views.{views, jobs_view}
 use Rattle.lpt_refinement.proofs.DeliveredShown.{delivered_shown}
 use Rattle.lpt_refinement.proofs.DueShown.{which_shown}
-use Rattle.lpt_refinement.proofs.ExecutedShown.{executed_shown}
+use Rattle.lpt_refinement.proofs.ExecutedShown.{left_shown}
 use Rattle.lpt_refinement.proofs.ClaimsShown.{claimed_shown}
 use Rattle.lpt_refinement.proofs.CommitsShown.{committed_shown}
 use Rattle.lpt_refinement.proofs.ExpiredShown.{expired_shown, with_expiry}
@@ -101,6 +101,7 @@ event_shown c first s h (Expire side which) in_range k fits e =
     (not_false (is_some o) (one_passes _ (expiry_fault which) e)) k)
 event_shown c first s h (Claim w) in_range k fits e = claimed_shown c first s h w k fits e
 event_shown c first s h (Commit w) in_range k fits e = committed_shown c first s h w k fits e
-event_shown c first s h Apply in_range k fits e = executed_shown c first s h in_range k fits e
+event_shown c first s h (Apply how) in_range k fits e =
+    left_shown c first s h how in_range k fits e
 event_shown c first s h (Retire d name) in_range k fits e = retired_shown c first s h d name k e
 event_shown c first s h (Restart side) in_range k fits e = restarted_shown c first s h side k

@@ -1,4 +1,4 @@
--- The oldest job is executed: the answer and the longer journal.
+-- The oldest job leaves the queue: the answer and the longer journal.
 use Rattle.std.proofs.Common.{◌≡◌, ◌∙◌, ap, sym, subst, refl, ℕ, nat_lt, false, if◌then◌else◌, List, [], ◌∷◌, ◌++◌, length, Option, Some, None}
 use Rattle.std.specs.List.{list_any, find}
 use Rattle.std.specs.Option.{option_map, option_or}
@@ -9,14 +9,14 @@ use Rattle.lpt_packet.specs.Names.{Name}
 use Rattle.lpt_events.specs.declared.config.Config.{Config}
 use Rattle.lpt_events.specs.declared.entry.Opening.{Opening}
 use Rattle.lpt_events.specs.declared.entry.Release.{Release}
-use Rattle.lpt_acts.specs.Acts.{Apply}
+use Rattle.lpt_acts.specs.Acts.{Leaving, Apply}
 use Rattle.lpt_events.specs.declared.reply.Answer.{Answer}
 use Rattle.lpt_events.specs.declared.side.Side.TheVariants.{Ground, Craft}
 use Rattle.lpt_events.specs.Configs.{IsConfig}
 use Rattle.lpt_execution.specs.Reporting.{request_source}
 use Rattle.lpt_memory.specs.Memories.{Contents}
 use Rattle.lpt_jobs.specs.Jobs.{without_front}
-use Rattle.lpt_node.specs.Jobs.{Execution, reports_made, job_executed, executed_of, with_opened as node_opened}
+use Rattle.lpt_node.specs.Jobs.{Execution, reports_made, with_opened as node_opened}
 use Rattle.lpt_node.specs.Nodes.{NodeData, Sending}
 use Rattle.lpt_node.specs.Sending.{opened_in}
 use Rattle.lpt_journal.specs.Journal.{SentPacket, History, with_all}
@@ -27,10 +27,10 @@ use Rattle.lpt_journal.specs.Refusals.{refusal}
 use Rattle.lpt_journal.specs.Replies.{puts_told, entry, reply}
 use Rattle.lpt_journal.specs.Senders.{sender, sender_of, least_free, open_count, packets_made, current, is_over, is_opening_of, octets_put, messages_opened, opened}
 use Rattle.lpt_refinement.specs.Shows.{Shows, ShowsSending, JobsFit}
-use Rattle.lpt_model.specs.State.{State, after, put_some, put_all, executed_on, as_list, add_opening}
+use Rattle.lpt_model.specs.State.{State, after, put_some, put_all, left_on, as_list, add_opening}
 use Rattle.lpt_refinement.specs.Views.{SendingView, views, jobs_view, sending_view}
 use Rattle.lpt_refinement.proofs.FrontShown.{Front, front_is}
-use Rattle.lpt_refinement.proofs.ExecutionAgrees.{reports, message, told_answer, on_link, sent_down, told_entry, told_memories, told_sizes, told_view, entry_by, view_by, ended_told, execution_agrees, memories_agree}
+use Rattle.lpt_refinement.proofs.ExecutionAgrees.{reports, message, told_answer, on_link, sent_down, told_entry, told_memories, told_sizes, told_view, entry_by, view_by, ended_told, left_at}
 use Rattle.lpt_refinement.proofs.JobsShown.{pop_shown}
 use Rattle.lpt_refinement.proofs.LinkShown.{as_many_packets, link_more_all}
 use Rattle.lpt_refinement.proofs.ReportLengths.{large_opened}
@@ -47,32 +47,22 @@ put_told n a (b ∷ bs) =
     length-map {B = SentPacket} (b ∷ bs) (λ b. record { direction = Down; octets = b }) in
     λ i. record { answer = a; puts = Some (record { first = n; count = sym count i }) }
 
--- what the machine makes of the job at the front
-executed_at : (c : Config) (first : Contents) (s : State) (h : History)
-    → (k : Shows s (views c first h))
-    → (f : Front c first s h)
-    → job_executed c s.on_craft s.memories
-    ≡ (ended_told c first s h f.job.message, told_memories c first h (Some f.job))
-executed_at c first s h k f =
-    ap (executed_of c s.on_craft s.memories) f.head
-    ∙ (λ i. (execution_agrees c first s h f.job.message k i, memories_agree c first s h f.job k i))
-
-pub executed_answer : (c : Config) (first : Contents) (s : State) (h : History)
+pub left_answer : (c : Config) (first : Contents) (s : State) (h : History) (how : Leaving)
     → Shows s (views c first h)
     → JobsFit (jobs_view c first h) (ticket c h)
-    → refusal c h Apply ≡ None
-    → (after c (length h) s Apply).1 ≡ reply c first h Apply
-executed_answer c first s h k fits e =
-    let f = front_is c first s h k fits e in
+    → refusal c h (Apply how) ≡ None
+    → (after c (length h) s (Apply how)).1 ≡ reply c first h (Apply how)
+left_answer c first s h how k fits e =
+    let f = front_is c first s h how k fits e in
     let m = f.job.message in
-    ap (λ (x : (NodeData × Execution) × Contents). (executed_on (length h) s x).1)
-    (executed_at c first s h k f)
-    ∙ put_told (length s.link.packets) (told_answer c first h m) (on_link c first h m)
+    ap (λ (x : (NodeData × Execution) × Contents). (left_on (length h) s x).1)
+    (left_at c first s h how f.job k f.head)
+    ∙ put_told (length s.link.packets) (told_answer c first h how m) (on_link c first h how m)
     ∙ ap (λ (n : ℕ). record {
-      answer = told_answer c first h m;
-      puts = puts_told n (sent_down (on_link c first h m));
+      answer = told_answer c first h how m;
+      puts = puts_told n (sent_down (on_link c first h how m));
     }) (as_many_packets k.link)
-    ∙ sym (ap (λ (o : Option Release). (entry_by c first h o).reply) f.is_front)
+    ∙ sym (ap (λ (o : Option Release). (entry_by c first h how o).reply) f.is_front)
 
 -- ---- what was sent
 
@@ -141,20 +131,21 @@ craft_opens h place made (Some m) k =
     (record { place = place; direction = Down; name = m.0; message = m.1 }) k
 
 -- the spacecraft has sent the reports
-craft_shown : (c : Config) (first : Contents) (s : State) (h : History) (m : List ℕ)
+craft_shown : (c : Config) (first : Contents) (s : State) (h : History) (how : Leaving) (m : List ℕ)
     → IsConfig c
     → Shows s (views c first h)
     → ShowsSending Craft
-    (opened_by (reports_made s.on_craft.sending (reports c first h m)) (message c first h m))
-    (sending_view (told_entry c first h m ∷ h) Down)
-craft_shown c first s h m in_range k =
-    craft_opens h (length h) _ (message c first h m)
-    (reports_shown c (request_source c.apid m) (reports c first h m) (clock c h Craft) _ _
-    (octets_down (on_link c first h m))
-    (opened_message (length h) (message c first h m)
+    (opened_by (reports_made s.on_craft.sending (reports c first h how m))
+    (message c first h how m))
+    (sending_view (told_entry c first h how m ∷ h) Down)
+craft_shown c first s h how m in_range k =
+    craft_opens h (length h) _ (message c first h how m)
+    (reports_shown c (request_source c.apid m) (reports c first h how m) (clock c h Craft) _ _
+    (octets_down (on_link c first h how m))
+    (opened_message (length h) (message c first h how m)
     ∙ large_opened c.part_size in_range.part_size_fits.0 c (request_source c.apid m)
     (packets_made h Down)
-    (clock c h Craft) c.apid m
+    (clock c h Craft) c.apid m how
     (least_free h Down (request_source c.apid m))
     (nat_lt (open_count h Down) (limits c h Craft).outgoing)
     (effect_of c (memories c first h) m))
@@ -170,34 +161,34 @@ openings_shown os os' place (Some x) e =
     ap (λ ps. ps ++ record { place = place; direction = Down; name = x.0; message = x.1 } ∷ []) e
 
 -- the state with this spacecraft, as the journal tells
-abbrev done : Config → Contents → State → History → Release → NodeData → State
-done c first s h r d = record s {
+abbrev done : Config → Contents → State → History → Leaving → Release → NodeData → State
+done c first s h how r d = record s {
   on_craft = d;
-  link = put_all s.link Down None (on_link c first h r.message);
-  memories = told_memories c first h (Some r);
-  opened = add_opening s.opened (length h) (message c first h r.message);
+  link = put_all s.link Down None (on_link c first h how r.message);
+  memories = told_memories c first h how (Some r);
+  opened = add_opening s.opened (length h) (message c first h how r.message);
 }
 
-done_shown : (c : Config) (first : Contents) (s : State) (h : History) (r : Release)
+done_shown : (c : Config) (first : Contents) (s : State) (h : History) (how : Leaving) (r : Release)
     → IsConfig c
     → Shows s (views c first h)
     → Shows
-    (executed_on (length h) s
-    (ended_told c first s h r.message, told_memories c first h (Some r))).0
-    (told_view c first h r)
-done_shown c first s h r in_range k =
+    (left_on (length h) s
+    (ended_told c first s h how r.message, told_memories c first h how (Some r))).0
+    (told_view c first h how r)
+done_shown c first s h how r in_range k =
     let m = r.message in
-    let rs = reports c first h m in
+    let rs = reports c first h how m in
     let d : NodeData = record s.on_craft {
       sending = reports_made s.on_craft.sending rs;
       jobs = without_front s.on_craft.jobs;
     } in
-    subst (λ (x : NodeData). Shows (done c first s h r x) (told_view c first h r))
-    (sym (opened_by_is d (message c first h m)))
+    subst (λ (x : NodeData). Shows (done c first s h how r x) (told_view c first h how r))
+    (sym (opened_by_is d (message c first h how m)))
     (record {
       ground = record {
         sending =
-            ground_shown h (length h) (message c first h m) (on_link c first h m)
+            ground_shown h (length h) (message c first h how m) (on_link c first h how m)
             k.ground.sending;
         receiving = k.ground.receiving;
         outgoing = k.ground.outgoing;
@@ -205,34 +196,34 @@ done_shown c first s h r in_range k =
         boot = k.ground.boot;
       };
       craft = record {
-        sending = craft_shown c first s h m in_range k;
+        sending = craft_shown c first s h how m in_range k;
         receiving = k.craft.receiving;
         outgoing = k.craft.outgoing;
         clock = k.craft.clock;
         boot = k.craft.boot;
       };
-      link = link_more_all Down None (on_link c first h m) k.link;
+      link = link_more_all Down None (on_link c first h how m) k.link;
       jobs = pop_shown k.jobs;
       tickets = k.tickets;
       memories = refl;
-      sizes = told_sizes c first h r ∙ k.sizes;
-      opened = openings_shown s.opened (opened h) (length h) (message c first h m) k.opened;
+      sizes = told_sizes c first h how r ∙ k.sizes;
+      opened = openings_shown s.opened (opened h) (length h) (message c first h how m) k.opened;
       released = k.released;
     })
 
-pub executed_shown : (c : Config) (first : Contents) (s : State) (h : History)
+pub left_shown : (c : Config) (first : Contents) (s : State) (h : History) (how : Leaving)
     → IsConfig c
     → Shows s (views c first h)
     → JobsFit (jobs_view c first h) (ticket c h)
-    → refusal c h Apply ≡ None
-    → Shows (after c (length h) s Apply).0 (views c first (entry c first h Apply ∷ h))
-executed_shown c first s h in_range k fits e =
-    let f = front_is c first s h k fits e in
+    → refusal c h (Apply how) ≡ None
+    → Shows (after c (length h) s (Apply how)).0 (views c first (entry c first h (Apply how) ∷ h))
+left_shown c first s h how in_range k fits e =
+    let f = front_is c first s h how k fits e in
     subst (λ (x : (NodeData × Execution) × Contents).
-    Shows (executed_on (length h) s x).0 (views c first (entry c first h Apply ∷ h)))
-    (sym (executed_at c first s h k f))
+    Shows (left_on (length h) s x).0 (views c first (entry c first h (Apply how) ∷ h)))
+    (sym (left_at c first s h how f.job k f.head))
     (subst (λ (o : Option Release).
     Shows
-    (executed_on (length h) s
-    (ended_told c first s h f.job.message, told_memories c first h (Some f.job))).0
-    (view_by c first h o)) (sym f.is_front) (done_shown c first s h f.job in_range k))
+    (left_on (length h) s
+    (ended_told c first s h how f.job.message, told_memories c first h how (Some f.job))).0
+    (view_by c first h how o)) (sym f.is_front) (done_shown c first s h how f.job in_range k))

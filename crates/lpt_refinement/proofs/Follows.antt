@@ -32,7 +32,7 @@ ready_shown c first s h (Tick side turn) k fits = tt
 ready_shown c first s h (Expire side which) k fits = tt
 ready_shown c first s h (Claim w) k fits = tt
 ready_shown c first s h (Commit w) k fits = commit_ready c first s h w k fits
-ready_shown c first s h Apply k fits = apply_ready c first s h k fits
+ready_shown c first s h (Apply how) k fits = apply_ready c first s h how k fits
 ready_shown c first s h (Retire d name) k fits = tt
 ready_shown c first s h (Restart side) k fits = tt
 

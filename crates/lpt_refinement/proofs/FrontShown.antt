@@ -1,10 +1,10 @@
--- The job at the front: whether it can be executed, and what its reading was made for.
+-- The job at the front: whether it can leave, and what its reading was made for.
 use Rattle.std.proofs.Common.{◌≡◌, ◌∙◌, ap, sym, subst, refl, ℕ, nat_lt, Bool, true, false, not, List, [], ◌∷◌, Option, Some, None, is_some}
 use Rattle.std.specs.Option.{option_map}
 use Rattle.std.proofs.lemmas.Option.{slice_get-map}
 use Rattle.lpt_events.specs.declared.config.Config.{Config}
 use Rattle.lpt_events.specs.declared.entry.Release.{Release}
-use Rattle.lpt_acts.specs.Acts.{Apply}
+use Rattle.lpt_acts.specs.Acts.{Leaving, Apply}
 use Rattle.lpt_events.specs.declared.fault.StepFault.TheVariants.{NoJob, NotReady}
 use Rattle.lpt_memory.specs.Memories.{Contents, sizes_of}
 use Rattle.lpt_memory.specs.Readings.{Source}
@@ -73,19 +73,19 @@ refused_by c first None t = refl
 refused_by c first (Some r) true = refl
 refused_by c first (Some r) false = refl
 
-pub apply_refused : (c : Config) (first : Contents) (s : State) (h : History)
+pub apply_refused : (c : Config) (first : Contents) (s : State) (h : History) (how : Leaving)
     → Shows s (views c first h)
     → JobsFit (jobs_view c first h) (ticket c h)
-    → refusal_of c s Apply ≡ refusal c h Apply
-apply_refused c first s h k fits =
+    → refusal_of c s (Apply how) ≡ refusal c h (Apply how)
+apply_refused c first s h how k fits =
     ap (λ x. option_map node_fault (refusal_apply_of x)) (head_shown c first s h k fits)
     ∙ refused_by c first (front_job c h) (is_committed h (jobs_applied h))
 
-pub apply_ready : (c : Config) (first : Contents) (s : State) (h : History)
+pub apply_ready : (c : Config) (first : Contents) (s : State) (h : History) (how : Leaving)
     → Shows s (views c first h)
     → JobsFit (jobs_view c first h) (ticket c h)
-    → IsReady c s Apply
-apply_ready c first s h k fits =
+    → IsReady c s (Apply how)
+apply_ready c first s h how k fits =
     subst (λ (x : Head). FrontIsFor x c.apid s.memories) (sym (head_shown c first s h k fits))
     (go (front_job c h) (is_committed h (jobs_applied h))) where
       go : (o : Option Release) (t : Bool) → FrontIsFor (head_told c first o t) c.apid s.memories
@@ -99,12 +99,12 @@ pub record Front (c : Config) (first : Contents) (s : State) (h : History) : Typ
   pub is_front : front_job c h ≡ Some job
   pub head : head_of s.on_craft.jobs.jobs ≡ Ready (source c first job.message)
 
-pub front_is : (c : Config) (first : Contents) (s : State) (h : History)
+pub front_is : (c : Config) (first : Contents) (s : State) (h : History) (how : Leaving)
     → Shows s (views c first h)
     → JobsFit (jobs_view c first h) (ticket c h)
-    → refusal c h Apply ≡ None
+    → refusal c h (Apply how) ≡ None
     → Front c first s h
-front_is c first s h k fits e =
+front_is c first s h how k fits e =
     go (front_job c h) (is_committed h (jobs_applied h)) refl (head_shown c first s h k fits)
     e where
       go : (o : Option Release) (t : Bool)

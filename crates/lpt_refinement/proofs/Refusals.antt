@@ -242,6 +242,6 @@ refusal_shown c first s h (Expire side None) k fits =
     ∙ by_due (due c h (direction_to side))
 refusal_shown c first s h (Claim w) k fits = claim_refused c first s h w k fits.jobs
 refusal_shown c first s h (Commit w) k fits = commit_refused c first s h w k
-refusal_shown c first s h Apply k fits = apply_refused c first s h k fits.jobs
+refusal_shown c first s h (Apply how) k fits = apply_refused c first s h how k fits.jobs
 refusal_shown c first s h (Retire d name) k fits = retire_refused c first s h d name k fits
 refusal_shown c first s h (Restart side) k fits = refl

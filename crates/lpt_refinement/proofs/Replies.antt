@@ -45,7 +45,7 @@ use Rattle.lpt_model.specs.State.{State, after, end_of, as_list, put_some, expir
 use Rattle.lpt_refinement.specs.Views.{views, jobs_view, receiving_view}
 use Rattle.lpt_refinement.proofs.ArrivalsAgree.{delivery, part_agrees, arrival_agrees}
 use Rattle.lpt_refinement.proofs.DueShown.{which_shown}
-use Rattle.lpt_refinement.proofs.ExecutedShown.{executed_answer}
+use Rattle.lpt_refinement.proofs.ExecutedShown.{left_answer}
 use Rattle.lpt_refinement.proofs.ClaimsShown.{claimed_answer}
 use Rattle.lpt_refinement.proofs.CommitsShown.{committed_answer}
 use Rattle.lpt_refinement.proofs.Fields.{receiving_at, clock_at, boot_at}
@@ -177,7 +177,7 @@ reply_shown c first s h (Deliver l) k fits e =
     ∙ ap (λ (n : ℕ). reply_told c h side n (outcome c h l)) (as_many_packets k.link)
 reply_shown c first s h (Claim w) k fits e = claimed_answer c first s h w k fits e
 reply_shown c first s h (Commit w) k fits e = committed_answer c first s h w k
-reply_shown c first s h Apply k fits e = executed_answer c first s h k fits e
+reply_shown c first s h (Apply how) k fits e = left_answer c first s h how k fits e
 reply_shown c first s h (Retire d name) k fits e = refl
 reply_shown c first s h (Restart side) k fits e =
     ap (λ n. quiet (Restarted (n + 1))) (boot_at c first h side k)

@@ -14,6 +14,7 @@ use Rattle.lpt_verify.specs.declared.report.EncodedReport.{EncodedReport}
 use Rattle.lpt_verify.specs.Reports.{asks, success, failure, success_if, reports_before, acceptance_reports, start_reports, completion_reports}
 use Rattle.lpt_memory.specs.declared.effect.Effect.{Effect}
 use Rattle.lpt_memory.specs.declared.effect.Effect.TheVariants as effect
+use Rattle.lpt_acts.specs.Acts.{Leaving, Execute, Refuse, Drop, ending_by}
 use Rattle.lpt_events.specs.declared.config.Config.{Config}
 use Rattle.lpt_execution.specs.declared.ending.Ending.{Ending}
 use Rattle.lpt_execution.specs.declared.ending.Ending.TheVariants.{Silent, Refused, Carried}
@@ -130,12 +131,20 @@ module _ (p : ℕ) (fits : 4 ≤ p) where
     go false e true false = inl refl
     go false e true true = inr (ap (λ t. length (if not t then report ∷ [] else [])) e, refl)
 
+  -- of one that leaves so
+  left_long : (how : Leaving) (free room : Bool) (a : Effect)
+      → AtMostOne free (length (too_long (data_of (ending_by how (ending p free room a)))))
+  left_long Execute free room a = data_long free room a
+  left_long (Refuse code) free room a = inl refl
+  left_long Drop free room a = inl refl
+
   -- of all reports
-  message_long : (apid : ℕ) (m : List ℕ) (free room : Bool) (a : Effect)
-      → AtMostOne free (length (too_long (message_reports apid m (ending p free room a))))
-  message_long apid m free room a = go (command_in apid m) where
+  message_long : (apid : ℕ) (m : List ℕ) (how : Leaving) (free room : Bool) (a : Effect)
+      → AtMostOne free
+      (length (too_long (message_reports apid m (ending_by how (ending p free room a)))))
+  message_long apid m how free room a = go (command_in apid m) where
     end : Ending
-    end = ending p free room a
+    end = ending_by how (ending p free room a)
 
     go : (o : Option Command)
         → AtMostOne free
@@ -143,7 +152,7 @@ module _ (p : ℕ) (fits : 4 ≤ p) where
     go None = inl refl
     go (Some c) =
         subst (λ (rs : List Report). AtMostOne free (length rs))
-        (sym (reports_long (long_at m 0) c.flags end)) (data_long free room a)
+        (sym (reports_long (long_at m 0) c.flags end)) (left_long how free room a)
 
   -- as many packets are too long
   length-large_packets : (c : Config) (peer : ℕ) (ps : List (List ℕ)) (time : ℕ) (rs : List Report)
@@ -177,12 +186,13 @@ module _ (p : ℕ) (fits : 4 ≤ p) where
 
   -- all packets that are too long are opened
   pub large_opened : (c : Config) (peer : ℕ) (ps : List (List ℕ)) (time apid : ℕ) (m : List ℕ)
-      (free : Option Name) (room : Bool) (a : Effect)
+      (how : Leaving) (free : Option Name) (room : Bool) (a : Effect)
       → let large = large_packets p
-      (reports_after c peer ps time (message_reports apid m (ending p (is_some free) room a))) in
+      (reports_after c peer ps time
+      (message_reports apid m (ending_by how (ending p (is_some free) room a)))) in
       as_list (option_map (λ x. x.1) (opened_of free large)) ≡ large
-  large_opened c peer ps time apid m free room a =
-      let rs = message_reports apid m (ending p (is_some free) room a) in
+  large_opened c peer ps time apid m how free room a =
+      let rs = message_reports apid m (ending_by how (ending p (is_some free) room a)) in
       opens_all free (large_packets p (reports_after c peer ps time rs))
       (subst (λ (n : ℕ). AtMostOne (is_some free) n) (sym (length-large_packets c peer ps time rs))
-      (message_long apid m (is_some free) room a))
+      (message_long apid m how (is_some free) room a))

@@ -97,7 +97,7 @@ pub carried_out_is_alone : CarriedOutIsAlone
 carried_out_is_alone c first es from request m good legal alone done =
     let run = done.execution in
     go done.release.of refl
-    ((headline c first es good legal).of_ground run.place done.release run.is_executed)
+    ((headline c first es good legal).of_ground run.did.place done.release run.did.is_executed)
   where
     h : History
     h = history_after c first es

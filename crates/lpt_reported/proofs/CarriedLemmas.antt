@@ -1,5 +1,5 @@
 -- In every legal journal each verification report on the link tells of an execution.
-use Rattle.std.proofs.Common.{◌≡◌, ◌∙◌, ap, sym, subst, refl, ℕ, suc, ◌^◌, ◌<◌, Bool, inl, inr, List, [], ◌∷◌, length, drop, Option, Some, None, arith}
+use Rattle.std.proofs.Common.{◌≡◌, ◌∙◌, ap, sym, subst, refl, ℕ, zero, suc, ◌^◌, ◌<◌, Bool, inl, inr, List, [], ◌∷◌, length, drop, Option, Some, None, arith}
 use Rattle.std.proofs.lemmas.Bool.{ne_eqb}
 use Rattle.std.specs.List.{slice_get}
 use Rattle.lpt_packet.specs.Numbers.{IsOctets}
@@ -15,22 +15,22 @@ use Rattle.lpt_verify.specs.Reading.{report_in}
 use Rattle.lpt_events.specs.Configs.{IsConfig}
 use Rattle.lpt_events.specs.declared.config.Config.{Config}
 use Rattle.lpt_events.specs.declared.entry.Release.{Release}
-use Rattle.lpt_acts.specs.Acts.{Act}
+use Rattle.lpt_acts.specs.Acts.{Leaving, Execute, Refuse, Drop, ending_by, Act}
 use Rattle.lpt_events.specs.declared.telemetry.TelemetryKind.TheVariants as kind
 use Rattle.lpt_events.specs.TelemetryKinds.{subtype_of}
-use Rattle.lpt_execution.specs.declared.ending.Ending.TheVariants.{Refused, Carried}
+use Rattle.lpt_execution.specs.declared.ending.Ending.{Ending}
+use Rattle.lpt_execution.specs.declared.ending.Ending.TheVariants.{Refused, Carried, Silent as Untold}
 use Rattle.lpt_execution.specs.declared.ending.Report.{Report}
 use Rattle.lpt_execution.specs.Endings.{reply_fault, reply_ending, ending}
 use Rattle.lpt_journal.specs.Executions.{effect_of}
-use Rattle.lpt_journal.specs.Jobs.{front_job, jobs_applied, executed, executed_by, memories}
+use Rattle.lpt_journal.specs.Jobs.{memories}
 use Rattle.lpt_journal.specs.Journal.{SentPacket, History}
 use Rattle.lpt_journal.specs.Legal.{Legal}
 use Rattle.lpt_journal.specs.Link.{sent}
-use Rattle.lpt_journal.specs.Replies.{entry, history_after}
+use Rattle.lpt_journal.specs.Replies.{history_after}
 use Rattle.lpt_journal.proofs.HeadlineLemmas.{every}
-use Rattle.lpt_journal.proofs.NewJobs.{new_executed}
-use Rattle.lpt_journal.proofs.TestLemmas.{IsOldOrNew, with_all_cases, no_place}
-use Rattle.lpt_reported.specs.Reported.{WasExecuted, WasDumped, IsVerification, IsReportOf, ReportsAreOfExecutions, OpenedReportsAreOfExecutions, CompletedWasExecuted, FailedChangedNothing, DumpedIsMemory, OpenedDumpIsMemory}
+use Rattle.lpt_journal.proofs.UpOctets.{AreUpOctets, up_octets_start}
+use Rattle.lpt_reported.specs.Reported.{HasLeft, WasExecuted, WasDumped, IsVerification, IsReportOf, ReportsAreOfExecutions, OpenedReportsAreOfExecutions, CompletedWasExecuted, FailedChangedNothing, DumpedIsMemory, OpenedDumpIsMemory}
 use Rattle.lpt_reported.proofs.ReportLemmas.{at_place}
 use Rattle.lpt_reported.proofs.SaidLemmas.{Tells, IsTold, IsOfData, IsTheData, message_told, message_data, of_data_only}
 use Rattle.lpt_reported.proofs.HereLemmas.{all_reported, fault_leaves}
@@ -42,35 +42,26 @@ pub reports_are_of_executions : ReportsAreOfExecutions
 reports_are_of_executions c first es n p to service subtype body good legal f is differs =
     all_reported c first es n p to service subtype body good legal f (ne_eqb service 13 differs) is
 
--- what was executed is octets
-message_octets : (c : Config) (first : Contents) (es : List Act)
+-- what goes up in the front of a journal is octets
+front_octets : (c : Config) (first : Contents) (es : List Act)
     → IsConfig c
     → Legal c first es
-    → (r : Release) (k : ℕ)
-    → slice_get (executed c (history_after c first es)) k ≡ Some r
-    → IsOctets r.message
-message_octets c first [] good legal r k f = absurd (no_place k r f)
-message_octets c first (e ∷ es) good legal r k f =
-    let h = history_after c first es in
-    go (message_octets c first es good legal.0 r)
-    (with_all_cases (executed c h) (executed_by c (entry c first h e) h) k r f)
-  where
-    go : ((k : ℕ) → slice_get (executed c (history_after c first es)) k ≡ Some r
-        → IsOctets r.message)
-        → IsOldOrNew (executed c (history_after c first es))
-        (executed_by c (entry c first (history_after c first es) e) (history_after c first es)) k r
-        → IsOctets r.message
-    go before (inl old) = before k old
-    go before (inr fresh) =
-        let h = history_after c first es in
-        let now = new_executed e (front_job c h) fresh.0 r fresh.2 in
-        (every c first es good legal.0).2.requests (jobs_applied h) r now.2
+    → (n : ℕ)
+    → AreUpOctets c (drop n (history_after c first es))
+front_octets c first es good legal zero = (every c first es good legal).2
+front_octets c first [] good legal (suc n) = up_octets_start c
+front_octets c first (e ∷ es) good legal (suc n) = front_octets c first es good legal.0 n
 
 -- the first four octets are a number of 32 bits
 long_small : (m : List ℕ) → IsOctets m → long_at m 0 < 2 ^ 32
 long_small m o = omega (arith, o 0, o 1, o 2, o 3)
 
--- the execution that a verification report tells of
+of_data_by : (how : Leaving) (end : Ending) → IsOfData end → IsOfData (ending_by how end)
+of_data_by Execute end of = of
+of_data_by (Refuse code) end of = tt
+of_data_by Drop end of = tt
+
+-- the request that a verification report tells of
 told : (c : Config) (first : Contents) (es : List Act) (n : ℕ) (p : SentPacket) (to subtype : ℕ)
     (said : Verification)
     → IsConfig c
@@ -85,9 +76,11 @@ told c first es n p to subtype said good legal f is =
     let m = it.release.message in
     let run = it.execution in
     let ms = memories c first (drop (suc run.number) h) in
-    let octets = message_octets c first es good legal it.release run.place run.is_executed in
+    let octets = (front_octets c first es good legal (suc run.number)).requests _ it.release
+    run.was_oldest in
     let of_six =
-    subst (λ end. IsOfData end) run.ended (of_data_only c.part_size _ _ (effect_of c ms m)) in
+    subst (λ end. IsOfData end) run.ended
+    (of_data_by it.how _ (of_data_only c.part_size _ _ (effect_of c ms m))) in
     let all = message_told c.apid m it.end (long_small m octets) of_six in
     let tells = at_place (IsTold (long_at m 0) it.end) _ it.number it.report all it.is_report in
     let says : report_in (subtype_of it.report.kind) it.report.body ≡ Some said =
@@ -95,6 +88,28 @@ told c first es n p to subtype said good legal f is =
       it,
       subst (λ s. Tells (long_at m 0) it.end s said) it.of_subtype (tells said it.of_service says),
     )
+
+-- what was carried out was executed
+carried_executed : (c : Config) (first : Contents) (h : History) (how : Leaving) (r : Release)
+    (given : Option Report)
+    → HasLeft c first h how r (Carried given)
+    → WasExecuted c first h r (Carried given)
+carried_executed c first h Execute r given it = it
+carried_executed c first h (Refuse code) r given it =
+    absurd (let no : Refused code ≡ Carried given = it.ended in cc)
+carried_executed c first h Drop r given it =
+    absurd (let no : Untold ≡ Carried given = it.ended in cc)
+
+-- what failed or was refused changed nothing
+failed_leaves : (c : Config) (first : Contents) (h : History) (how : Leaving) (r : Release)
+    (fault : FailureCode) (it : HasLeft c first h how r (Refused fault))
+    → memories c first (drop it.number h) ≡ memories c first (drop (suc it.number) h)
+failed_leaves c first h Execute r fault it =
+    let ms = memories c first (drop (suc it.number) h) in
+    it.did.left
+    ∙ fault_leaves (meaning c.apid (sizes_of ms) r.message) ms c.part_size _ _ fault it.ended
+failed_leaves c first h (Refuse code) r fault it = it.did
+failed_leaves c first h Drop r fault it = it.did
 
 pub completed_was_executed : CompletedWasExecuted
 completed_was_executed c first es n p to subtype said good legal f is success =
@@ -105,7 +120,8 @@ completed_was_executed c first es n p to subtype said good legal f is success =
     record {
       release = it.release;
       answer = done.0;
-      execution = subst (λ end. WasExecuted c first h it.release end) done.1 it.execution;
+      execution = carried_executed c first h it.how it.release done.0
+          (subst (λ end. HasLeft c first h it.how it.release end) done.1 it.execution);
       of_source = it.of_source;
       is_request = sym t.1.of_request;
     }
@@ -116,20 +132,17 @@ failed_changed_nothing c first es n p to subtype code said good legal f is failu
     let t = told c first es n p to subtype said good legal f is in
     let it = t.0 in
     let why = t.1.failed code failure in
-    let run : WasExecuted c first h it.release (Refused why.0) =
-    subst (λ end. WasExecuted c first h it.release end) why.1 it.execution in
-    let ms = memories c first (drop (suc run.number) h) in
+    let run : HasLeft c first h it.how it.release (Refused why.0) =
+    subst (λ end. HasLeft c first h it.how it.release end) why.1 it.execution in
     record {
       release = it.release;
       fault = why.0;
+      how = it.how;
       execution = run;
       of_source = it.of_source;
       is_request = sym t.1.of_request;
       of_code = why.2;
-      unchanged =
-          run.left
-          ∙ fault_leaves (meaning c.apid (sizes_of ms) it.release.message) ms c.part_size _ _ why.0
-          run.ended;
+      unchanged = failed_leaves c first h it.how it.release why.0 run;
     }
 
 -- ---- dumps
@@ -175,7 +188,8 @@ of_dump c first h to body it =
     at_place (IsTheData it.end) _ it.number it.report (message_data c.apid m it.end) it.is_report
     it.of_service in
     let run : WasExecuted c first h it.release (Carried (Some it.report)) =
-    subst (λ e. WasExecuted c first h it.release e) end it.execution in
+    carried_executed c first h it.how it.release (Some it.report)
+    (subst (λ e. HasLeft c first h it.how it.release e) end it.execution) in
     let ms = memories c first (drop (suc run.number) h) in
     let was = dump_answered (meaning c.apid (sizes_of ms) m) ms c.part_size _ _ it.report
     it.of_subtype run.ended in

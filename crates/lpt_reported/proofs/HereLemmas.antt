@@ -1,4 +1,4 @@
--- Each report on the link of a legal journal is of an execution.
+-- Each report on the link of a legal journal is of a request that left the queue.
 use Rattle.std.proofs.Common.{◌≡◌, ◌∙◌, ap, sym, refl, ℕ, zero, suc, ◌+◌, ◌==◌, nat_lt, Bool, false, inl, inr, List, [], ◌∷◌, ◌++◌, length, map, take, Option, Some, None, arith}
 use Rattle.std.proofs.lemmas.List.{map-append}
 use Rattle.std.specs.List.{slice_get, AllByRecursion}
@@ -20,7 +20,7 @@ use Rattle.lpt_events.specs.Lanes.{lane_direction}
 use Rattle.lpt_events.specs.Sides.{receiver_side, direction_to}
 use Rattle.lpt_events.specs.declared.config.Config.{Config}
 use Rattle.lpt_events.specs.declared.entry.Release.{Release}
-use Rattle.lpt_acts.specs.Acts.{Act, Send, Plain, Damage, Deliver, Expire, Apply}
+use Rattle.lpt_acts.specs.Acts.{Leaving, Execute, Refuse, Drop, Act, Send, Plain, Damage, Deliver, Expire, Apply}
 use Rattle.lpt_events.specs.declared.outcome.Outcome.{Outcome}
 use Rattle.lpt_events.specs.declared.outcome.Outcome.TheVariants.{Broken}
 use Rattle.lpt_events.specs.declared.side.Side.{Side}
@@ -52,8 +52,9 @@ use Rattle.lpt_journal.proofs.Steps.{IsSound}
 use Rattle.lpt_journal.proofs.TestLemmas.{IsOldOrNew, with_all_cases, get-with_all, get-behind, no_place}
 use Rattle.lpt_journal.proofs.TimeEvents.{given_up_named}
 use Rattle.lpt_journal.proofs.UpOctets.{AreUpOctets}
-use Rattle.lpt_reported.specs.Reported.{WasExecuted, IsTelemetryDown, IsReportOf}
-use Rattle.lpt_reported.proofs.ReportLemmas.{telemetry_reports, IsReadWith, all_read, on_link, IsOneOf, each_is_one}
+use Rattle.lpt_journal.proofs.WorkEvents.{ending_by_fits}
+use Rattle.lpt_reported.specs.Reported.{Did, HasLeft, IsTelemetryDown, IsReportOf}
+use Rattle.lpt_reported.proofs.ReportLemmas.{telemetry_reports, IsReadWith, all_read, on_link, IsOneOf, each_is_one, take_front, take_with_all}
 
 -- ---- what an execution leaves
 
@@ -89,40 +90,34 @@ fault_leaves (Check id ranges) ms p free room fault e = refl
 
 -- ---- what a report on the link is of
 
--- what stood before a place stands there as the list grows
-take_with_all : {A : Type 0} (xs ys : List A) (k : ℕ) (y : A)
-    → slice_get xs k ≡ Some y
-    → take k (with_all xs ys) ≡ take k xs
-take_with_all xs [] k y e = refl
-take_with_all {A} xs (z ∷ ys) k y e = go xs k e where
-  go : (xs : List A) (k : ℕ) → slice_get xs k ≡ Some y → take k (xs ++ z ∷ ys) ≡ take k xs
-  go [] k e = absurd (no_place k y e)
-  go (x ∷ xs) zero e = refl
-  go (x ∷ xs) (suc k) e = ap (λ rest. x ∷ rest) (go xs k e)
+-- what was done was so after an entry
+did_later : (c : Config) (first : Contents) (h : History) (x : Recorded) (n : ℕ) (r : Release)
+    (how : Leaving)
+    → Did c first h n r how
+    → Did c first (x ∷ h) (suc n) r how
+did_later c first h x n r Execute a = record {
+  place = a.place;
+  is_executed = get-with_all (executed c h) (executed_by c x h) a.place r a.is_executed;
+  so_far =
+      a.so_far ∙ sym (take_with_all (executed c h) (executed_by c x h) a.place r a.is_executed);
+  left = a.left;
+}
+did_later c first h x n r (Refuse code) a = a
+did_later c first h x n r Drop a = a
 
-take_front : {A : Type 0} (xs ys : List A) → take (length xs + 0) (xs ++ ys) ≡ xs
-take_front [] ys = refl
-take_front (x ∷ xs) ys =
-    let more : suc (length xs) + 0 ≡ suc (length xs + 0) = omega arith in
-    ap (λ n. take n (x ∷ xs ++ ys)) more ∙ ap (λ rest. x ∷ rest) (take_front xs ys)
-
--- what was executed was so after an entry
-executed_later : (c : Config) (first : Contents) (h : History) (x : Recorded) (r : Release)
-    (end : Ending)
-    → WasExecuted c first h r end
-    → WasExecuted c first (x ∷ h) r end
-executed_later c first h x r end a = record {
+-- and what left had left
+left_later : (c : Config) (first : Contents) (h : History) (x : Recorded) (how : Leaving)
+    (r : Release) (end : Ending)
+    → HasLeft c first h how r end
+    → HasLeft c first (x ∷ h) how r end
+left_later c first h x how r end a = record {
   number = suc a.number;
   entry = a.entry;
   is_there = a.is_there;
   applies = a.applies;
   was_oldest = a.was_oldest;
   ended = a.ended;
-  place = a.place;
-  is_executed = get-with_all (executed c h) (executed_by c x h) a.place r a.is_executed;
-  so_far =
-      a.so_far ∙ sym (take_with_all (executed c h) (executed_by c x h) a.place r a.is_executed);
-  left = a.left;
+  did = did_later c first h x a.number r how a.did;
 }
 
 pub report_later : (c : Config) (first : Contents) (h : History) (x : Recorded)
@@ -133,7 +128,8 @@ pub report_later : (c : Config) (first : Contents) (h : History) (x : Recorded)
 report_later c first h x to service subtype body a = record {
   release = a.release;
   end = a.end;
-  execution = executed_later c first h x a.release a.end a.execution;
+  how = a.how;
+  execution = left_later c first h x a.how a.release a.end a.execution;
   number = a.number;
   report = a.report;
   is_report = a.is_report;
@@ -143,20 +139,16 @@ report_later c first h x to service subtype body a = record {
   of_body = a.of_body;
 }
 
--- the oldest request is executed now
-executed_here : (c : Config) (first : Contents) (h : History) (r : Release)
+-- the oldest request leaves now
+did_here : (c : Config) (first : Contents) (h : History) (r : Release) (how : Leaving)
     → front_job c h ≡ Some r
-    → WasExecuted c first (entry c first h Apply ∷ h) r (ending_of c first h r.message)
-executed_here c first h r e =
-    let x = entry c first h Apply in
-    let one : executed_by c x h ≡ r ∷ [] = ap (executed_now Apply) e in
+    → Did c first (entry c first h (Apply how) ∷ h) 0 r how
+did_here c first h r (Refuse code) e = refl
+did_here c first h r Drop e = refl
+did_here c first h r Execute e =
+    let x = entry c first h (Apply Execute) in
+    let one : executed_by c x h ≡ r ∷ [] = ap (executed_now (Apply Execute)) e in
     record {
-      number = 0;
-      entry = x;
-      is_there = refl;
-      applies = refl;
-      was_oldest = e;
-      ended = refl;
       place = length (executed c h) + 0;
       is_executed =
           ap (λ rs. slice_get (with_all (executed c h) rs) (length (executed c h) + 0)) one
@@ -168,19 +160,33 @@ executed_here c first h r e =
       left = executed_leaves c first x h r one;
     }
 
--- ---- the reports of an execution
+left_here : (c : Config) (first : Contents) (h : History) (r : Release) (how : Leaving)
+    → front_job c h ≡ Some r
+    → HasLeft c first (entry c first h (Apply how) ∷ h) how r (ending_of c first h how r.message)
+left_here c first h r how e = record {
+  number = 0;
+  entry = entry c first h (Apply how);
+  is_there = refl;
+  applies = refl;
+  was_oldest = e;
+  ended = refl;
+  did = did_here c first h r how e;
+}
 
--- what is read of one of the oldest request's reports is read of its execution
-pub report_here : (c : Config) (first : Contents) (h : History) (r : Release) (p : SentPacket)
+-- ---- the reports of a request
+
+-- what is read of one of the oldest request's reports is read of its leaving
+pub report_here : (c : Config) (first : Contents) (h : History) (r : Release) (how : Leaving)
+    (p : SentPacket)
     (to service subtype : ℕ) (body : List ℕ)
     → IsTelemetryDown c p to service subtype body
     → front_job c h ≡ Some r
     → (x : Report × List ℕ)
     → IsReadWith c (request_source c.apid r.message)
-    (IsOneOf (message_reports c.apid r.message (ending_of c first h r.message))) x
+    (IsOneOf (message_reports c.apid r.message (ending_of c first h how r.message))) x
     → p.octets ≡ x.1
-    → IsReportOf c first (entry c first h Apply ∷ h) to service subtype body
-report_here c first h r p to service subtype body is e x read same =
+    → IsReportOf c first (entry c first h (Apply how) ∷ h) to service subtype body
+report_here c first h r how p to service subtype body is e x read same =
     let t = is.telemetry in
     let u = read.1 in
     let one : u.telemetry ≡ t =
@@ -188,8 +194,9 @@ report_here c first h r p to service subtype body is e x read same =
     sym u.is_read ∙ ap (λ b. telemetry_in c.apid b) (sym same) ∙ is.is_read in cc in
     record {
       release = r;
-      end = ending_of c first h r.message;
-      execution = executed_here c first h r e;
+      end = ending_of c first h how r.message;
+      how = how;
+      execution = left_here c first h r how e;
       number = read.0.0;
       report = x.0;
       is_report = read.0.1;
@@ -200,39 +207,40 @@ report_here c first h r p to service subtype body is e x read same =
     }
 
 -- the packets that the spacecraft makes of them are read as they are
-pub packets_here : (c : Config) (first : Contents) (h : History) (r : Release)
+pub packets_here : (c : Config) (first : Contents) (h : History) (r : Release) (how : Leaving)
     → IsConfig c
     → IsSound c h
     → AreUpOctets c h
     → front_job c h ≡ Some r
     → AllByRecursion (IsReadWith c (request_source c.apid r.message)
-    (IsOneOf (message_reports c.apid r.message (ending_of c first h r.message))))
+    (IsOneOf (message_reports c.apid r.message (ending_of c first h how r.message))))
     (executions.reports_after c (request_source c.apid r.message) (packets_made h Down)
     (clock c h Craft)
-    (message_reports c.apid r.message (ending_of c first h r.message)))
-packets_here c first h r good sound up e =
+    (message_reports c.apid r.message (ending_of c first h how r.message)))
+packets_here c first h r how good sound up e =
     let m = r.message in
     let octets : IsOctets m = up.requests (jobs_applied h) r e in
-    let reports = message_reports c.apid m (ending_of c first h m) in
+    let reports = message_reports c.apid m (ending_of c first h how m) in
     let free = is_some (least_free h Down (request_source c.apid m)) in
     let room = nat_lt (open_count h Down) (limits c h Craft).outgoing in
     all_read c (IsOneOf reports) (request_source c.apid m)
     (packets_made h Down) (clock c h Craft) reports
     good (source_fits c.apid m octets) (sound.clocks Craft)
-    (message_sendable c.apid m (ending_of c first h m)
+    (message_sendable c.apid m (ending_of c first h how m)
+    (ending_by_fits how _
     (ending_fits c.part_size free room (effect_of c (memories c first h) m)
-    (answer_fits c.apid (memories c first h) m octets)))
+    (answer_fits c.apid (memories c first h) m octets))))
     (each_is_one reports)
 
-reports_here : (c : Config) (first : Contents) (h : History) (k : ℕ) (p : SentPacket)
-    (to service subtype : ℕ) (body : List ℕ)
+reports_here : (c : Config) (first : Contents) (h : History) (how : Leaving) (k : ℕ)
+    (p : SentPacket) (to service subtype : ℕ) (body : List ℕ)
     → IsConfig c
     → IsSound c h
     → AreUpOctets c h
-    → slice_get (executions.front_puts c first h) k ≡ Some p
+    → slice_get (executions.front_puts c first h how) k ≡ Some p
     → IsTelemetryDown c p to service subtype body
-    → IsReportOf c first (entry c first h Apply ∷ h) to service subtype body
-reports_here c first h k p to service subtype body good sound up f is =
+    → IsReportOf c first (entry c first h (Apply how) ∷ h) to service subtype body
+reports_here c first h how k p to service subtype body good sound up f is =
     go (front_job c h) refl f where
       go : (o : Option Release)
           → front_job c h ≡ o
@@ -242,19 +250,19 @@ reports_here c first h k p to service subtype body good sound up f is =
           (packets_made h Down)
           (clock c h Craft)
           (option_map_or (λ (r : Release). message_reports c.apid r.message
-          (ending_of c first h r.message)) o [])))) k ≡ Some p
-          → IsReportOf c first (entry c first h Apply ∷ h) to service subtype body
+          (ending_of c first h how r.message)) o [])))) k ≡ Some p
+          → IsReportOf c first (entry c first h (Apply how) ∷ h) to service subtype body
       go None e f = absurd (no_place k p f)
       go (Some r) e f =
           let m = r.message in
-          let reports = message_reports c.apid m (ending_of c first h m) in
+          let reports = message_reports c.apid m (ending_of c first h how m) in
           let xs =
           executions.reports_after c (request_source c.apid m) (packets_made h Down)
           (clock c h Craft) reports in
           let it = on_link
           (IsReadWith c (request_source c.apid m) (IsOneOf reports)) c.part_size xs
-          (packets_here c first h r good sound up e) k p f in
-          report_here c first h r p to service subtype body is e it.0 it.1 it.2
+          (packets_here c first h r how good sound up e) k p f in
+          report_here c first h r how p to service subtype body is e it.0 it.1 it.2
 
 -- ---- each event
 
@@ -304,8 +312,8 @@ put_here : (c : Config) (first : Contents) (h : History) (e : Act)
     → slice_get (puts c first h e) k ≡ Some p
     → IsTelemetryDown c p to service subtype body
     → IsReportOf c first (entry c first h e ∷ h) to service subtype body
-put_here c first h Apply good sound up can k p to service subtype body other f is =
-    reports_here c first h k p to service subtype body good sound up f is
+put_here c first h (Apply how) good sound up can k p to service subtype body other f is =
+    reports_here c first h how k p to service subtype body good sound up f is
 put_here c first h (Send d name n) good sound up can k p to service subtype body other f is =
     absurd (let pays = owes c first h (Send d name n) good sound up can in
     let no : None ≡ Some name =

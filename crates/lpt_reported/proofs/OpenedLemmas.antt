@@ -1,4 +1,4 @@
--- What an execution opens, as it is too long for the link, is one of its reports.
+-- What a request opens that leaves, as it is too long for the link, is one of its reports.
 use Rattle.std.proofs.Common.{◌≡◌, ◌∙◌, ap, sym, subst, refl, ℕ, zero, suc, List, [], ◌∷◌, length, Option, Some, None}
 use Rattle.std.specs.List.{slice_get}
 use Rattle.std.specs.Option.{option_map_or}
@@ -9,7 +9,7 @@ use Rattle.lpt_events.specs.Configs.{IsConfig}
 use Rattle.lpt_events.specs.declared.config.Config.{Config}
 use Rattle.lpt_events.specs.declared.entry.Opening.{Opening}
 use Rattle.lpt_events.specs.declared.entry.Release.{Release}
-use Rattle.lpt_acts.specs.Acts.{Act, Apply}
+use Rattle.lpt_acts.specs.Acts.{Leaving, Act, Apply}
 use Rattle.lpt_events.specs.declared.side.Side.TheVariants.{Craft}
 use Rattle.lpt_execution.specs.Reporting.{message_reports, request_source, large_packets, opened_of}
 use Rattle.lpt_journal.specs.Executions.{effect_of, ending_of}
@@ -30,16 +30,16 @@ use Rattle.lpt_reported.proofs.ReportLemmas.{IsReadWith, too_long, IsOneOf}
 use Rattle.lpt_reported.proofs.HereLemmas.{report_later, report_here, packets_here}
 
 -- what is read of a report that is opened is read of its execution
-opened_here : (c : Config) (first : Contents) (h : History) (k : ℕ) (o : Opening)
+opened_here : (c : Config) (first : Contents) (h : History) (how : Leaving) (k : ℕ) (o : Opening)
     (to service subtype : ℕ) (body : List ℕ)
     → IsConfig c
     → IsSound c h
     → AreUpOctets c h
-    → slice_get (executions.front_opens c first h) k ≡ Some o
+    → slice_get (executions.front_opens c first h how) k ≡ Some o
     → IsTelemetryDown c (record { direction = Down; octets = o.message }) to service subtype body
-    → IsReportOf c first (entry c first h Apply ∷ h) to service subtype body
-opened_here c first h k o to service subtype body good sound up f is =
-    of_opened (executions.front_opened c first h) refl f where
+    → IsReportOf c first (entry c first h (Apply how) ∷ h) to service subtype body
+opened_here c first h how k o to service subtype body good sound up f is =
+    of_opened (executions.front_opened c first h how) refl f where
       of_report : (front : Option Release)
           → front_job c h ≡ front
           → (y : Name × List ℕ)
@@ -51,29 +51,29 @@ opened_here c first h k o to service subtype body good sound up f is =
           (packets_made h Down)
           (clock c h Craft)
           (option_map_or (λ (r : Release). message_reports c.apid r.message
-          (ending_of c first h r.message)) front []))) ≡ Some y
-          → IsReportOf c first (entry c first h Apply ∷ h) to service subtype body
+          (ending_of c first h how r.message)) front []))) ≡ Some y
+          → IsReportOf c first (entry c first h (Apply how) ∷ h) to service subtype body
       of_report None e y same g = absurd (none_of (least_free h Down 0) g) where
         none_of : (free : Option Name) → opened_of free [] ≡ Some y → ⊥
         none_of None k = cc
         none_of (Some name) k = cc
       of_report (Some r) e y same g =
           let m = r.message in
-          let reports = message_reports c.apid m (ending_of c first h m) in
+          let reports = message_reports c.apid m (ending_of c first h how m) in
           let xs =
           executions.reports_after c (request_source c.apid m) (packets_made h Down)
           (clock c h Craft) reports in
           let it = too_long
           (IsReadWith c (request_source c.apid m) (IsOneOf reports)) c.part_size xs
-          (packets_here c first h r good sound up e)
+          (packets_here c first h r how good sound up e)
           (least_free h Down (request_source c.apid m)) y g in
-          report_here c first h r (record { direction = Down; octets = o.message }) to service
+          report_here c first h r how (record { direction = Down; octets = o.message }) to service
           subtype body is e it.0 it.1 (sym same ∙ it.2)
 
       of_opened : (opened : Option (Name × List ℕ))
-          → executions.front_opened c first h ≡ opened
+          → executions.front_opened c first h how ≡ opened
           → slice_get (executions.opened_down (length h) opened) k ≡ Some o
-          → IsReportOf c first (entry c first h Apply ∷ h) to service subtype body
+          → IsReportOf c first (entry c first h (Apply how) ∷ h) to service subtype body
       of_opened None e f = absurd (no_place k o f)
       of_opened (Some y) e f =
           of_report (front_job c h) refl y
@@ -93,16 +93,15 @@ all_opened c first (e ∷ es) m to service subtype body good legal was is =
     go was.number was.is_there (all_opened c first es m to service subtype body good legal.0)
   where
     here : (e : Act)
-        → e ≡ Apply
+        → e ≡ Apply was.how
         → slice_get (opens c first (history_after c first es) e) was.place ≡ Some was.opening
         → IsReportOf c first (entry c first (history_after c first es) e ∷ history_after c first es)
         to
         service subtype body
-    here Apply same f =
+    here (Apply how) same f =
         let had = every c first es good legal.0 in
-        opened_here c first (history_after c first es) was.place was.opening to service subtype body
-        good
-        had.0 had.2 f
+        opened_here c first (history_after c first es) how was.place was.opening to service subtype
+        body good had.0 had.2 f
         (subst (λ b. IsTelemetryDown c (record { direction = Down; octets = b }) to service subtype
         body) (sym was.is) is)
     here e same f = absurd cc
@@ -125,6 +124,7 @@ all_opened c first (e ∷ es) m to service subtype body good legal was is =
           number = n;
           entry = was.entry;
           is_there = f;
+          how = was.how;
           applies = was.applies;
           place = was.place;
           opening = was.opening;

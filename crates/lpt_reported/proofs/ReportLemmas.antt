@@ -1,5 +1,5 @@
 -- The packets of an execution's reports are read as those reports.
-use Rattle.std.proofs.Common.{◌≡◌, ◌∙◌, ap, sym, subst, refl, ℕ, zero, suc, ◌+◌, ◌^◌, ◌<◌, ◌≤◌, ◌==◌, ◌&&◌, Bool, true, false, not, if◌then◌else◌, List, [], ◌∷◌, length, map, Option, Some, None, arith}
+use Rattle.std.proofs.Common.{◌≡◌, ◌∙◌, ap, sym, subst, refl, ℕ, zero, suc, ◌+◌, ◌^◌, ◌<◌, ◌≤◌, ◌==◌, ◌&&◌, Bool, true, false, not, if◌then◌else◌, List, [], ◌∷◌, ◌++◌, length, map, take, Option, Some, None, arith}
 use Rattle.std.specs.List.{slice_get, filter, AllByRecursion}
 use Rattle.std.specs.Option.{option_map_or}
 use Rattle.std.specs.Result.{result_ok}
@@ -27,6 +27,25 @@ use Rattle.lpt_journal.specs.Journal.{SentPacket, with_all}
 use Rattle.lpt_journal.specs.Senders.{count_after, counter_after}
 use Rattle.lpt_journal.proofs.SentReports.{IsSendable}
 use Rattle.lpt_journal.proofs.TestLemmas.{no_place}
+
+-- ---- lists
+
+-- what stood before a place stands there as the list grows
+pub take_with_all : {A : Type 0} (xs ys : List A) (k : ℕ) (y : A)
+    → slice_get xs k ≡ Some y
+    → take k (with_all xs ys) ≡ take k xs
+take_with_all xs [] k y e = refl
+take_with_all {A} xs (z ∷ ys) k y e = go xs k e where
+  go : (xs : List A) (k : ℕ) → slice_get xs k ≡ Some y → take k (xs ++ z ∷ ys) ≡ take k xs
+  go [] k e = absurd (no_place k y e)
+  go (x ∷ xs) zero e = refl
+  go (x ∷ xs) (suc k) e = ap (λ rest. x ∷ rest) (go xs k e)
+
+pub take_front : {A : Type 0} (xs ys : List A) → take (length xs + 0) (xs ++ ys) ≡ xs
+take_front [] ys = refl
+take_front (x ∷ xs) ys =
+    let more : suc (length xs) + 0 ≡ suc (length xs + 0) = omega arith in
+    ap (λ n. take n (x ∷ xs ++ ys)) more ∙ ap (λ rest. x ∷ rest) (take_front xs ys)
 
 -- ---- telemetry on ground
 

@@ -1,4 +1,4 @@
--- What verification reports on the link say of the requests that were executed.
+-- What verification reports on the link say of the requests that left the queue.
 use Rattle.std.specs.Prelude.{◌≡◌, ◌≢◌, ◌⊎◌, ℕ, suc, List, take, drop, slice_get, Option, Some}
 use Rattle.lpt_packet.specs.declared.direction.Direction.TheVariants.{Down}
 use Rattle.lpt_pus.specs.declared.failure_code.FailureCode.{FailureCode}
@@ -15,7 +15,7 @@ use Rattle.lpt_events.specs.Configs.{IsConfig}
 use Rattle.lpt_events.specs.declared.config.Config.{Config}
 use Rattle.lpt_events.specs.declared.entry.Opening.{Opening}
 use Rattle.lpt_events.specs.declared.entry.Release.{Release}
-use Rattle.lpt_acts.specs.Acts.{Act, Apply}
+use Rattle.lpt_acts.specs.Acts.{Leaving, Execute, Act, Apply}
 use Rattle.lpt_events.specs.TelemetryKinds.{service_of, subtype_of}
 use Rattle.lpt_execution.specs.declared.ending.Ending.{Ending}
 use Rattle.lpt_execution.specs.declared.ending.Ending.TheVariants.{Refused, Carried}
@@ -30,17 +30,10 @@ use Rattle.lpt_journal.specs.Replies.{history_after}
 
 -- ---- executions
 
--- An entry executed the oldest request, so that it is one of those that were executed, and ended it
--- so. The memories are then what it leaves of those before it. Behind an entry stands the history
--- before it.
-pub record WasExecuted (c : Config) (first : Contents) (h : History) (r : Release)
-    (end : Ending) : Type 0 where
-  pub number : ℕ
-  pub entry : Recorded
-  pub is_there : slice_get h number ≡ Some entry
-  pub applies : entry.event ≡ Apply
-  pub was_oldest : front_job c (drop (suc number) h) ≡ Some r
-  pub ended : ending_of c first (drop (suc number) h) r.message ≡ end
+-- the entry of this number executed a request, so that it is one of those that were executed; the
+-- memories are then what it leaves of those before it
+pub record IsExecutedAt (c : Config) (first : Contents) (h : History) (number : ℕ)
+    (r : Release) : Type 0 where
   pub place : ℕ
   pub is_executed : slice_get (executed c h) place ≡ Some r
   pub so_far : executed c (drop (suc number) h) ≡ take place (executed c h)
@@ -48,6 +41,29 @@ pub record WasExecuted (c : Config) (first : Contents) (h : History) (r : Releas
       ≡ effect
       (meaning c.apid (sizes_of (memories c first (drop (suc number) h))) r.message)
       (memories c first (drop (suc number) h))
+
+-- what the entry of this number did to the memories with a request that left so: nothing, unless it
+-- executed it
+abbrev pub Did : Config → Contents → History → ℕ → Release → Leaving → Type 0
+Did c first h number r Execute = IsExecutedAt c first h number r
+Did c first h number r how =
+    memories c first (drop number h) ≡ memories c first (drop (suc number) h)
+
+-- By an entry the oldest request left so, and ended so. Behind an entry stands the history before
+-- it.
+pub record HasLeft (c : Config) (first : Contents) (h : History) (how : Leaving) (r : Release)
+    (end : Ending) : Type 0 where
+  pub number : ℕ
+  pub entry : Recorded
+  pub is_there : slice_get h number ≡ Some entry
+  pub applies : entry.event ≡ Apply how
+  pub was_oldest : front_job c (drop (suc number) h) ≡ Some r
+  pub ended : ending_of c first (drop (suc number) h) how r.message ≡ end
+  pub did : Did c first h number r how
+
+-- it was executed
+abbrev pub WasExecuted : Config → Contents → History → Release → Ending → Type 0
+WasExecuted c first h r end = HasLeft c first h Execute r end
 
 -- a request of this source and with this request ID, its first four octets, was executed and
 -- carried out
@@ -59,13 +75,14 @@ pub record WasCarriedOut (c : Config) (first : Contents) (h : History)
   pub of_source : request_source c.apid release.message ≡ from
   pub is_request : long_at release.message 0 ≡ request
 
--- a request of this source and with this request ID was executed, and failed with this code: no
--- memory was changed
+-- a request of this source and with this request ID was executed and failed with this code, or was
+-- refused with it: no memory was changed
 pub record HasFailed (c : Config) (first : Contents) (h : History)
     (from request code : ℕ) : Type 0 where
   pub release : Release
   pub fault : FailureCode
-  pub execution : WasExecuted c first h release (Refused fault)
+  pub how : Leaving
+  pub execution : HasLeft c first h how release (Refused fault)
   pub of_source : request_source c.apid release.message ≡ from
   pub is_request : long_at release.message 0 ≡ request
   pub of_code : number_of fault ≡ code
@@ -93,13 +110,14 @@ pub record IsVerification (c : Config) (p : SentPacket) (to subtype : ℕ)
   pub is_down : IsTelemetryDown c p to 1 subtype body
   pub says : report_in subtype body ≡ Some said
 
--- a report of an execution goes to this destination, the source of its request, and has this
+-- a report of a request that left goes to this destination, the source of its request, and has this
 -- service, message subtype and body
 pub record IsReportOf (c : Config) (first : Contents) (h : History) (to service subtype : ℕ)
     (body : List ℕ) : Type 0 where
   pub release : Release
   pub end : Ending
-  pub execution : WasExecuted c first h release end
+  pub how : Leaving
+  pub execution : HasLeft c first h how release end
   pub number : ℕ
   pub report : Report
   pub is_report : slice_get (message_reports c.apid release.message end) number ≡ Some report
@@ -108,13 +126,14 @@ pub record IsReportOf (c : Config) (first : Contents) (h : History) (to service 
   pub of_subtype : subtype_of report.kind ≡ subtype
   pub of_body : report.body ≡ body
 
--- The message was opened by an entry that executed a request: a report that is too long for the
+-- The message was opened by an entry by which a request left: a report that is too long for the
 -- link goes down in parts.
 pub record WasOpened (c : Config) (first : Contents) (es : List Act) (m : List ℕ) : Type 0 where
   pub number : ℕ
   pub entry : Recorded
   pub is_there : slice_get (history_after c first es) number ≡ Some entry
-  pub applies : entry.event ≡ Apply
+  pub how : Leaving
+  pub applies : entry.event ≡ Apply how
   pub place : ℕ
   pub opening : Opening
   pub opens : slice_get entry.opens place ≡ Some opening

@@ -5,14 +5,14 @@ ghost use Rattle.lpt_reported.specs.Images.{LoadsLeaveTheImage, PassLeavesTheIma
 ghost use Rattle.lpt_reported.specs.Reported.{CompletedWasExecuted, DumpedIsMemory, FailedChangedNothing, OpenedDumpIsMemory, OpenedReportsAreOfExecutions, ReportsAreOfExecutions};
 
 /// Over every legal journal, telemetry that was put on the link and is of no part and no abortion
-/// is a report of a request that was executed, one of those that its message and its end ask for.
-/// What the link's noise left is none.
+/// is a report of a request that left the queue, executed or refused, one of those that its message
+/// and its end ask for. What the link's noise left is none.
 pub fn reports_are_of_executions()
     ensures { ReportsAreOfExecutions }
 {}
 
-/// Telemetry that an execution opened as a large message, since it is too long for the link, is a
-/// report of a request that was executed, too.
+/// Telemetry that was opened as a large message, since it is too long for the link, is a report of
+/// a request that left the queue, too.
 pub fn opened_reports_are_of_executions()
     ensures { OpenedReportsAreOfExecutions }
 {}
@@ -31,8 +31,8 @@ pub fn carried_out_is_alone()
 {}
 
 /// Over every legal journal, a report of a failure that stands on the link comes of a request that
-/// was executed, whose first four octets are its request ID, which failed with this code and
-/// changed no memory.
+/// left the queue, whose first four octets are its request ID, which failed with this code or was
+/// refused with it, and changed no memory.
 pub fn failed_changed_nothing()
     ensures { FailedChangedNothing }
 {}

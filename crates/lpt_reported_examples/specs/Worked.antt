@@ -4,7 +4,7 @@ use Rattle.std.specs.Prelude.{◌≡◌, ℕ, ◌<◌, List, [], ◌∷◌, leng
 use Rattle.lpt_pus.specs.Numbers.{long_at}
 use Rattle.lpt_memory.specs.Memories.{sizes_of}
 use Rattle.lpt_verify.specs.declared.report.Report.{Report as Verification}
-use Rattle.lpt_acts.specs.Acts.{Act, Plain, Lose, Take, Deliver, Claim, Commit, Apply, Restart}
+use Rattle.lpt_acts.specs.Acts.{Execute, Act, Plain, Lose, Take, Deliver, Claim, Commit, Apply, Restart}
 use Rattle.lpt_events.specs.declared.lane.Lane.TheVariants.{S1, G1}
 use Rattle.lpt_events.specs.declared.side.Side.TheVariants.{Craft}
 use Rattle.lpt_events.specs.declared.worker.Worker.TheVariants.{W1}
@@ -41,10 +41,10 @@ next_load =
 abbrev pub load_twice : List Act
 load_twice =
     Plain 7 8 6 2 load ∷ Plain 7 8 6 2 next_body
-    ∷ Take S1 0 ∷ Deliver S1 ∷ Claim W1 ∷ Commit W1 ∷ Apply
+    ∷ Take S1 0 ∷ Deliver S1 ∷ Claim W1 ∷ Commit W1 ∷ Apply Execute
     ∷ Lose 2 ∷ Restart Craft
-    ∷ Take S1 0 ∷ Deliver S1 ∷ Claim W1 ∷ Commit W1 ∷ Apply
-    ∷ Take S1 1 ∷ Deliver S1 ∷ Claim W1 ∷ Commit W1 ∷ Apply
+    ∷ Take S1 0 ∷ Deliver S1 ∷ Claim W1 ∷ Commit W1 ∷ Apply Execute
+    ∷ Take S1 1 ∷ Deliver S1 ∷ Claim W1 ∷ Commit W1 ∷ Apply Execute
     ∷ Take G1 3 ∷ Deliver G1 ∷ Take G1 4 ∷ Deliver G1 ∷ []
 
 -- a report of the completion of this load is on the link, to its source

@@ -12,12 +12,11 @@ use Rattle.lpt_events.specs.declared.outcome.Outcome.TheVariants as outcome
 use Rattle.lpt_events.specs.declared.side.Side.TheVariants.{Ground, Craft}
 use Rattle.lpt_journal.proofs.OctetLemmas.{made_octets}
 use Rattle.lpt_memory.specs.Readings.{Job}
-use Rattle.lpt_model.specs.State.{released_of}
+use Rattle.lpt_model.specs.State.{released_of, job_left}
 use Rattle.lpt_model.specs.Tickets.{ticket_of}
 use Rattle.lpt_node.specs.Accepting.{packet_accepted}
-use Rattle.lpt_node.specs.Jobs.{job_executed}
 use Rattle.lpt_node.specs.declared.accepted.Accepted.{Accepted}
-use Rattle.lpt_apart.specs.Facts.{Fact, Opened, Asked, Released, Aborted, Executed, Retired, Restarted, Log, message_awaited, is_of_it, is_same, with_abortion, AllDue, IsDue}
+use Rattle.lpt_apart.specs.Facts.{Fact, Opened, Asked, Released, Aborted, Left, Retired, Restarted, Log, message_awaited, is_of_it, is_same, with_abortion, AllDue, IsDue}
 use Rattle.lpt_apart.specs.Moves.{Pair, Move, Do, Free, CanMove, pair_after}
 use Rattle.lpt_apart.specs.Steps.{Open, Send, Plain, Finish, Accept, Tick, Expire, Claim, Commit, Apply, Retire, Restart, committed_on, with_release, with_report}
 
@@ -81,7 +80,7 @@ awaited_octets (Released of n ∷ log) name m all is =
 awaited_octets (Aborted d i ∷ log) name m all is =
     none_or (is_same d i Up name) m (message_awaited log Up name) (awaited_octets log name m all.0)
     is
-awaited_octets (Executed ∷ log) name m all is = awaited_octets log name m all.0 is
+awaited_octets (Left how ∷ log) name m all is = awaited_octets log name m all.0 is
 awaited_octets (Retired d i ∷ log) name m all is =
     none_or (is_same d i Up name) m (message_awaited log Up name) (awaited_octets log name m all.0)
     is
@@ -186,8 +185,8 @@ octets_on c p (Do (Commit w)) can all = go (ticket_of p.ends.tickets w) where
   go : (o : Option Job) → AreOfOctets (committed_on c p.ends w o).log
   go None = all
   go (Some t) = all
-octets_on c p (Do Apply) can all =
-    (report_octets p.ends.log (job_executed c p.ends.on_craft p.ends.memories).0.1.opened all, tt)
+octets_on c p (Do (Apply how)) can all =
+    (report_octets p.ends.log (job_left how c p.ends.on_craft p.ends.memories).0.1.opened all, tt)
 octets_on c p (Do (Retire Up name)) can all = (all, tt)
 octets_on c p (Do (Retire Down name)) can all = (all, tt)
 octets_on c p (Do (Restart side)) can all = (all, tt)

@@ -13,6 +13,7 @@ use Rattle.lpt_node.specs.Nodes.{NodeData}
 use Rattle.lpt_model.specs.Tickets.{Tickets, no_tickets, ticket_of, with_ticket}
 use Rattle.lpt_apart.specs.Ends.{put_out}
 use Rattle.lpt_apart.specs.Moves.{Pair, Move, Do}
+use Rattle.lpt_acts.specs.Acts.{Execute}
 use Rattle.lpt_apart.specs.Steps.{Apply, Claim, Commit}
 use Rattle.lpt_spacecraft.specs.Serving.{Onboard, read_over}
 use Rattle.lpt_spacecraft.proofs.ServingLemmas.{read_over-jobs}
@@ -21,7 +22,7 @@ use Rattle.lpt_spacecraft_moves.proofs.Runs.{Reaches, octets-put}
 
 -- the moves
 abbrev pub request : List Move
-request = Do (Claim W1) ∷ Do (Commit W1) ∷ Do Apply ∷ []
+request = Do (Claim W1) ∷ Do (Commit W1) ∷ Do (Apply Execute) ∷ []
 
 module _ (c : Config) (p : Pair) (m : List ℕ) (free : p.ends.tickets ≡ no_tickets)
     (waits : p.ends.on_craft.jobs.jobs ≡ Waiting m ∷ []) where

@@ -1,5 +1,3 @@
-use Rattle.lpt_c_pair.proofs.Keeping.{programs_that_drop_withhold_no_request}
-use Rattle.lpt_c_pair.proofs.Servicing.{ends_of_c_that_drop_withhold_no_request}
 use Rattle.lpt_c_pair.proofs.Withholding.{ends_of_c_withhold_nothing, programs_withhold_nothing}
 use Rattle.lpt_c_pair.proofs.laws.ends_of_c_withhold_nothing.Goals as goal
 
@@ -8,9 +6,3 @@ returns-clause-in_end f = ends_of_c_withhold_nothing
 
 pub returns-clause-with_program : goal.returns-clause-with_program
 returns-clause-with_program f = programs_withhold_nothing
-
-pub returns-clause-dropping : goal.returns-clause-dropping
-returns-clause-dropping f = ends_of_c_that_drop_withhold_no_request
-
-pub returns-clause-own_dropping : goal.returns-clause-own_dropping
-returns-clause-own_dropping f = programs_that_drop_withhold_no_request
