@@ -124,7 +124,7 @@ class Quick:
 
         def one(words: list[str]) -> None:
             with self.builds:
-                statuses.append(self.ask(" ".join([name, *words[3:]]), words))
+                statuses.append(self.ask(" ".join([name, *words[4:]]), words))
 
         side_by_side([threading.Thread(target=one, args=(it,)) for it in commands])
         if any(statuses):
