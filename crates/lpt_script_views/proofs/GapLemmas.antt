@@ -40,13 +40,17 @@ same_missing : (kept : List ℕ) (marks : List Bool) (parts k : ℕ)
     → is_unmarked marks parts k ≡ is_missing kept parts k
 same_missing kept marks parts k marked = go (nat_le k parts) refl
   where
+    off : (a x y : Bool) → (a && false && x) ≡ (a && false && y)
+    off true x y = refl
+    off false x y = refl
+
     go : (b : Bool) → nat_le k parts ≡ b
         → (nat_le 1 k && b && not (get_or marks k false))
         ≡ (nat_le 1 k && b && not (has_number kept k))
     go true is =
         let within : k < parts + 1 = grind (arith, nat_tests) in
         ap (λ x. nat_le 1 k && true && not x) (marked k within)
-    go false is = refl
+    go false is = off (nat_le 1 k) (not (get_or marks k false)) (not (has_number kept k))
 
 same_gap : (f g : ℕ → Bool) (k : ℕ) → ((n : ℕ) → f n ≡ g n) → part_gap f k ≡ part_gap g k
 same_gap f g k same =

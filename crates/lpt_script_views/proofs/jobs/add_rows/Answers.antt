@@ -9,6 +9,7 @@ pub loop-place-preserved : goal.loop-place-preserved
 loop-place-preserved c =
     let n = c.loop-place.place in
     let from = c.args.counts.applied in
-    rows_next (job_row c.args.counts (history c.args.world.now)) from n (from + n) (n + 1)
+    rows_next (job_row c.args.counts (history c.args.world.now)) from n
+    (c.from.result + c.from-in-loop-place.result) (n + 1)
     (string_bytes c.args.text.now) (string_bytes c.loop-place.text) (string_bytes c.add_job.new.text)
-    refl (omega arith) c.loop-place.invariant c.in_ok-add_job.ensures
+    (grind arith) (omega arith) c.loop-place.invariant c.in_ok-add_job.ensures
