@@ -47,8 +47,8 @@ _PIECE = 8 << 20
 # What `join` says of a message that isn't whole or isn't given, and `extract` of addresses.
 _LOST = re.compile(r"lpt: (?:up|down) (?:(\d+)/)?(\d+): (?:from octet (\d+) on, )?(?:missing parts: [\d/]+:(\S+)|(.*))$")
 _SPAN = re.compile(r"lpt: memory \d+: (no octets came for )?address(?:es)? (\d+)(?:-(\d+))?(?: came with different octets)?$")
-# The source that the program writes as none.
-_OWN_SOURCE = 1
+# The source that the program writes as none: the profile's, and that of a layout without a field for it.
+_OWN_SOURCE, _NO_SOURCE = 1, 0
 # How captures begin, and in which order of octets their numbers are.
 _CAPTURES: dict[bytes, Literal["big", "little"]] = {
     b"\xa1\xb2\xc3\xd4": "big", b"\xa1\xb2\x3c\x4d": "big", b"\xd4\xc3\xb2\xa1": "little",
@@ -96,7 +96,7 @@ class Message:
         if self.octets is not None:
             said = f"{len(self.octets)} octets"
         else:
-            said = self.fault or f"missing parts {self.missing:.40}"
+            said = f"{self.fault:.60}" or f"missing parts {self.missing:.40}"
         at = "" if self.date is None else f", {self.date}"
         return f"<Message {self.name}: {said}{at}>"
 
@@ -382,6 +382,7 @@ def _records(path: str) -> bytes:
 
 # ---- messages ----
 
+_FIELD_OF_SOURCE = {Direction.UP: "source_id", Direction.DOWN: "destination_id"}
 _NAMING = ("packet_type", "application_process_id", "source_id", "destination_id", "large_message_transaction_identifier")
 
 
@@ -393,19 +394,25 @@ def _name_of(kind: str, apid: int, source: int, destination: int, identifier: in
 
 
 class _Dates:
-    """Of which directions and APIDs parts came, in the order of their first, and the date of each packet with a part."""
+    """Of which directions and APIDs parts came, in the order of their first, and the date of each packet with a part;
+    and of each direction the source that the program writes as none."""
 
     def __init__(self, words: list[str]) -> None:
-        names = ["place", "packet_type", "application_process_id", "date", "part"]
+        names = ["place", "packet_type", "application_process_id", "date", "part", *_FIELD_OF_SOURCE.values()]
         _, found = _read(words, names)
         self._places: Any = None
         self.pairs: list[tuple[Direction, int]] = []
+        self.own = dict.fromkeys(Direction, _OWN_SOURCE)
         if "part" not in found:
             return
         chosen = found["part"][1].nonzero()[0]
         kinds, apids = found["packet_type"][0][chosen], found["application_process_id"][0][chosen]
         pairs = dict.fromkeys(zip(kinds.tolist(), apids.tolist()))
         self.pairs = [(Direction.UP if it == "tc" else Direction.DOWN, apid) for it, apid in pairs]
+        for direction, kind in ((Direction.UP, "tc"), (Direction.DOWN, "tm")):
+            its, field = chosen[kinds == kind], _FIELD_OF_SOURCE[direction]
+            if len(its) and not (field in found and found[field][1][its].any()):
+                self.own[direction] = _NO_SOURCE
         if "date" in found:
             self._places = found["place"][0][chosen]
             self._dates = found["date"][0][chosen]
@@ -426,7 +433,7 @@ def _joined(direction: Direction, apid: int, words: list[str], dates: _Dates) ->
     with tempfile.TemporaryDirectory(prefix="forgesilver-") as folder:
         place = pathlib.Path(folder, "each")
         ran = program.run("join", way, "--each", str(place), *_json_of_join(), *words)
-        for it in _told(ran, place):
+        for it in _told(ran, place, dates.own[direction]):
             source, identifier = _source_and_id(it["name"])
             name, first = MessageName(direction, apid, source, identifier), it.get("from")
             if "missing" in it or "fault" in it:
@@ -440,7 +447,7 @@ def _joined(direction: Direction, apid: int, words: list[str], dates: _Dates) ->
     _warn((it for it in _said(ran.said) if not _LOST.match(it)), 4)
 
 
-def _told(ran: program.Ran, place: pathlib.Path) -> list[dict[str, Any]]:
+def _told(ran: program.Ran, place: pathlib.Path, own: int) -> list[dict[str, Any]]:
     """What was told of messages, as objects: of whole ones by their files, if the command printed none; then what isn't
     whole, by what it said, as far as no object has it."""
     told: list[dict[str, Any]] = [json.loads(it) for it in ran.printed.splitlines()]
@@ -451,7 +458,7 @@ def _told(ran: program.Ran, place: pathlib.Path) -> list[dict[str, Any]]:
     for it in filter(None, map(_LOST.match, _said(ran.said))):
         key = "missing" if it[4] else "fault"
         if key not in has:
-            name = f"{it[1] or _OWN_SOURCE}/{it[2]}"
+            name = f"{it[1] or own}/{it[2]}"
             told.append({"name": name, "from": int(it[3]) if it[3] else None, key: it[4] or it[5]})
     return told
 
@@ -459,7 +466,7 @@ def _told(ran: program.Ran, place: pathlib.Path) -> list[dict[str, Any]]:
 def _source_and_id(name: str) -> tuple[int, int]:
     """The source and the ID in a name such as `up 1/7`."""
     source, _, identifier = name.rpartition(" ")[2].rpartition("/")
-    return int(source or _OWN_SOURCE), int(identifier)
+    return int(source), int(identifier)
 
 
 def _json_of_join() -> list[str]:
