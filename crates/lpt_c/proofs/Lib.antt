@@ -1,4 +1,3 @@
-pub mod ChecksumLemmas
 pub mod DumpLemmas
 pub mod LoadLemmas
 pub mod PartLemmas

@@ -8,8 +8,11 @@ pub mod Lookups
 pub mod NameLemmas
 pub mod NamedLemmas
 pub mod OctetLists
+pub mod Powers
 pub mod Readings
 pub mod Registers
 pub mod Shifts
 pub mod SightLemmas
 pub mod Slices
+pub mod WordLemmas
+pub mod WordSums

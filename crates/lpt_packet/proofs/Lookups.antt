@@ -70,7 +70,8 @@ shift_all_sum (b ∷ bs) r s h hr hs =
 
 -- ---- the bits of an octet
 
-cons_same : {x y : ℕ} {xs ys : List ℕ} → x ≡ y → xs ≡ ys → x ∷ xs ≡ y ∷ ys
+-- lists of the same first element and the same rest
+pub cons_same : {x y : ℕ} {xs ys : List ℕ} → x ≡ y → xs ≡ ys → x ∷ xs ≡ y ∷ ys
 cons_same p q = cc
 
 -- the bits that fall out are those of the upper octet

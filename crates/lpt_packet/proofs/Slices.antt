@@ -8,9 +8,9 @@ use Rattle.lpt_packet.proofs.Registers.{shift_fits, shift_all-fits}
 use Rattle.lpt_packet.proofs.Shifts.{AreBits, taken, test, shift_is}
 use Rattle.lpt_packet.proofs.Lookups.{moved_sum, test_sum, octet_sum}
 
--- ---- one bit into the sum of two registers, of which one takes a zero
+-- ---- one bit into the sum of two registers
 
-exchange : (m n p q : ℕ)
+pub exchange : (m n p q : ℕ)
     → bit_xor (bit_xor m n) (bit_xor p q)
     ≡ bit_xor (bit_xor m p) (bit_xor n q)
 exchange m n p q =
@@ -30,25 +30,37 @@ taken_sum zero (suc (suc q)) h k = absurd (omega arith)
 taken_sum (suc zero) (suc (suc q)) h k = absurd (omega arith)
 taken_sum (suc (suc p)) q h k = absurd (omega arith)
 
--- so one register takes a zero, and the other the bit
-shift_parts : (r s b : ℕ)
+-- so each register takes a bit of its own
+pub shift_both : (r s a b : ℕ)
+    → r < 65536
+    → s < 65536
+    → a < 2
+    → b < 2
+    → shift (bit_xor r s) ((a + b) % 2) ≡ bit_xor (shift r a) (shift s b)
+shift_both r s a b hr hs ha hb =
+    let m : ℕ = r * 2 % 65536 in
+    let n : ℕ = s * 2 % 65536 in
+    let c : ℕ = (a + b) % 2 in
+    let p : ℕ = test r a in
+    let q : ℕ = test s b in
+    let tests : test (bit_xor r s) c ≡ (p + q) % 2 = test_sum r s c hr hs ∙ omega arith in
+    shift_is (bit_xor r s) c (xor_of_16 r s hr hs) (omega arith)
+    ∙ ap (λ (k : ℕ). bit_xor k (taken (test (bit_xor r s) c))) (moved_sum r s)
+    ∙ ap (λ (k : ℕ). bit_xor (bit_xor m n) (taken k)) tests
+    ∙ ap (bit_xor (bit_xor m n)) (taken_sum p q (omega arith) (omega arith))
+    ∙ exchange m n (taken p) (taken q)
+    ∙ ap (λ (k : ℕ). bit_xor k (bit_xor n (taken q))) (sym (shift_is r a hr ha))
+    ∙ ap (bit_xor (shift r a)) (sym (shift_is s b hs hb))
+
+-- as one a zero, and the other the bit
+pub shift_parts : (r s b : ℕ)
     → r < 65536
     → s < 65536
     → b < 2
     → shift (bit_xor r s) b ≡ bit_xor (shift r 0) (shift s b)
 shift_parts r s b hr hs hb =
-    let m : ℕ = r * 2 % 65536 in
-    let n : ℕ = s * 2 % 65536 in
-    let p : ℕ = test r 0 in
-    let q : ℕ = test s b in
-    let tests : test (bit_xor r s) b ≡ (p + q) % 2 = test_sum r s b hr hs ∙ omega arith in
-    shift_is (bit_xor r s) b (xor_of_16 r s hr hs) hb
-    ∙ ap (λ (k : ℕ). bit_xor k (taken (test (bit_xor r s) b))) (moved_sum r s)
-    ∙ ap (λ (k : ℕ). bit_xor (bit_xor m n) (taken k)) tests
-    ∙ ap (bit_xor (bit_xor m n)) (taken_sum p q (omega arith) (omega arith))
-    ∙ exchange m n (taken p) (taken q)
-    ∙ ap (λ (k : ℕ). bit_xor k (bit_xor n (taken q))) (sym (shift_is r 0 hr (omega arith)))
-    ∙ ap (bit_xor (shift r 0)) (sym (shift_is s b hs hb))
+    let same : b ≡ (0 + b) % 2 = omega arith in
+    ap (shift (bit_xor r s)) same ∙ shift_both r s 0 b hr hs (omega arith) hb
 
 -- ---- many bits, and octets
 
@@ -104,7 +116,7 @@ parts_are (x ∷ xs) =
 -- ---- a register that falls out with the first two octets
 
 -- the register is as good as octets that are added to these
-added_first : (r a b : ℕ) (rest : List ℕ)
+pub added_first : (r a b : ℕ) (rest : List ℕ)
     → r < 65536
     → octets_in r (a ∷ b ∷ rest)
     ≡ octets_in 0 (bit_xor (r / 256) a ∷ bit_xor (r % 256) b ∷ rest)

@@ -7,3 +7,4 @@ pub mod Numbers
 pub mod Packets
 pub mod Ranges
 pub mod Sizes
+pub mod Words

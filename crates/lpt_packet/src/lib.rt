@@ -17,9 +17,10 @@ mod packet;
 mod reading;
 mod sizes;
 mod table;
+mod words;
 mod writing;
 
-pub use checksum::crc16;
+pub use checksum::{crc16, crc16_more};
 pub use direction::Direction;
 pub use fault::PacketFault;
 pub use name::Name;
