@@ -26,7 +26,7 @@ THEOREMS = [
 
 # Those of laws that assume more.
 OTHERS = [
-    ("lpt_ground_moves", "Chains", "DoneLeavesTheImage"),
+    ("lpt_passes", "Chains", "DoneLeavesTheImage"),
     ("lpt_spacecraft_moves", "Lives", "GroundAndSpacecraftKeepThePromise"),
 ]
 

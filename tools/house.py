@@ -39,8 +39,9 @@ NAMED = re.compile(r"\blpt_\w+/(?:src|specs|proofs)/\w+(?:/\w+)*")
 LONGEST_LINE, LONGEST_FUNCTION, LONGEST_FILE, MOST_PARAMETERS = 100, 40, 400, 7
 # So many crates may have a type of one name.
 MOST_NAMESAKES = 3
-# So many must-fail edits may there be in all, in a crate, and in one of those on whose code the promise rests.
-MOST_EDITS, EDITS_OF_A_CRATE, EDITS_OF_THE_CORE = 700, 12, 20
+# So many must-fail edits may there be in all, in a crate, and in one of those on whose code the promise rests; in a
+# crate of more lines of source one for each so many of them.
+MOST_EDITS, EDITS_OF_A_CRATE, EDITS_OF_THE_CORE, LINES_OF_AN_EDIT = 640, 12, 20, 60
 CORE = set(
     """lpt_packet lpt_part lpt_memory lpt_reception lpt_table lpt_ledger lpt_node lpt_state lpt_execution lpt_share
     lpt_c_end lpt_spacecraft lpt_stream""".split()
@@ -319,7 +320,8 @@ def wrong_edits(top: pathlib.Path) -> Iterator[str]:
     if sum(found.values()) > MOST_EDITS:
         yield f"there are {sum(found.values())} must-fail edits, and at most {MOST_EDITS} may be"
     for crate, edits in found.items():
-        most = EDITS_OF_THE_CORE if crate in CORE else EDITS_OF_A_CRATE
+        source = sum(len(it.read_text(encoding="utf-8").splitlines()) for it in (top / "crates" / crate).glob("src/*.rt"))
+        most = max(EDITS_OF_THE_CORE if crate in CORE else EDITS_OF_A_CRATE, -(-source // LINES_OF_AN_EDIT))
         if edits > most:
             yield f"{crate} has {edits} must-fail edits, and at most {most} may be"
 

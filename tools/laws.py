@@ -1,6 +1,6 @@
 """Copies a law of a crate beside itself, with a definition changed, so that one run of the prover tries many.
 
-A law stands in src/laws.rt with an empty body, its statement in specs/, its proof in proofs/. A copy under a name of
+A law stands in src/laws.rt, or in another file src/laws_*.rt, with an empty body, its statement in specs/, its proof in proofs/. A copy under a name of
 its own has all that lies between the law and the changed file: the law, its answers, and each file of specs/ and
 proofs/ that names the changed one, itself or through others. All else is shared with the crate as it stands.
 """
@@ -12,7 +12,6 @@ import re
 from dataclasses import dataclass, field
 from typing import Iterator, Optional
 
-LAWS = "src/laws.rt"
 # What a file of the crate imports of the crate: a module of its specs/ or proofs/.
 OWN = r"\bRattle\.{}\.((?:specs|proofs)(?:\.\w+)+)"
 SUFFIX = "Row"
@@ -32,8 +31,7 @@ class Laws:
         for part in ["specs", "proofs"]:
             for path in sorted((self.folder / part).glob("**/*.antt")):
                 self.texts[module_of(path, self.folder)] = path.read_text(encoding="utf-8")
-        self.source = (self.folder / LAWS).read_text(encoding="utf-8")
-        self.lines = self.source.split("\n")
+        self.lines = {it: path.read_text(encoding="utf-8").split("\n") for it, path in files_of_laws(self.folder).items()}
 
     def imports(self, text: str) -> set[str]:
         """The files of specs/ and proofs/ that a text names."""
@@ -46,34 +44,36 @@ class Laws:
 
     def answers(self, law: str) -> list[str]:
         """The files of a law's own proof."""
-        return [it for it in self.texts if it.startswith(f"proofs.laws.{law}.")]
+        return [it for it in self.texts if it.startswith(f"proofs.{module_with(self.folder, law)}.{law}.")]
 
     def place_of(self, law: str) -> tuple[int, int]:
-        """The lines of a law, with its comments and attributes."""
-        head = next(at for at, it in enumerate(self.lines) if re.match(rf"pub fn {law}\b", it))
+        """The lines of a law in its file, with its comments and attributes."""
+        lines = self.lines[module_with(self.folder, law)]
+        head = next(at for at, it in enumerate(lines) if re.match(rf"pub fn {law}\b", it))
         first, last = head, head
-        while first and re.match(r"//|#\[", self.lines[first - 1]):
+        while first and re.match(r"//|#\[", lines[first - 1]):
             first -= 1
         # Its body is empty, or calls other laws.
-        while not re.search(r"(^\}|\{\})$", self.lines[last]):
+        while not re.search(r"(^\}|\{\})$", lines[last]):
             last += 1
         return first, last + 1
 
     def text_of(self, law: str) -> str:
         """A law, with its comments and attributes."""
-        return "\n".join(self.lines[slice(*self.place_of(law))])
+        return "\n".join(self.lines[module_with(self.folder, law)][slice(*self.place_of(law))])
 
-    def head(self) -> str:
-        """What stands in the file of laws before the first of them: its imports."""
-        first = min(at for at, it in enumerate(self.lines) if re.match(r"///|#\[|pub fn ", it))
-        return "\n".join(self.lines[:first])
+    def head(self, law: str) -> str:
+        """What stands in the law's file before the first law: its imports."""
+        lines = self.lines[module_with(self.folder, law)]
+        first = min(at for at, it in enumerate(lines) if re.match(r"///|#\[|pub fn ", it))
+        return "\n".join(lines[:first])
 
     def between(self, law: str, changed: str) -> Optional[set[str]]:
         """The files between a law and the file that is changed, with both ends; None where the law's statement
         doesn't name it, itself or through others."""
         named = {it: self.imports(text) for it, text in self.texts.items()}
         used = self.text_of(law)
-        heads = [it for it in self.head().split("\n") if names_in(it) & words_in(used)]
+        heads = [it for it in self.head(law).split("\n") if names_in(it) & words_in(used)]
         stated = reached(self.imports("\n".join(heads)), named)
         if changed not in stated:
             return None
@@ -87,16 +87,16 @@ class Laws:
         if files is None:
             return False
         row = f"{SUFFIX}{number}"
-        room = f"laws_row{number}"
+        room, own = f"laws_row{number}", f"proofs.{module_with(self.folder, law)}."
 
         def renamed(it: str) -> str:
-            if it.startswith("proofs.laws."):
-                return it.replace("proofs.laws.", f"proofs.{room}.", 1)
+            if it.startswith(own):
+                return it.replace(own, f"proofs.{room}.", 1)
             return it + row
 
         names = sorted(files, key=len, reverse=True)
         pattern = re.compile(
-            rf"\bRattle\.{self.crate}\.({'|'.join(map(re.escape, names))}|proofs\.laws\.{law})(?!\w)"
+            rf"\bRattle\.{self.crate}\.({'|'.join(map(re.escape, names))}|{re.escape(own)}{law})(?!\w)"
         )
 
         paths = re.compile(rf"\bcrate::({'|'.join(it.replace('.', '::') for it in names)})::")
@@ -110,10 +110,10 @@ class Laws:
             path = path_of(renamed(it), self.folder)
             path.parent.mkdir(parents=True, exist_ok=True)
             path.write_text(told(text if it == changed else self.texts[it]), encoding="utf-8")
-            if not it.startswith("proofs.laws."):
+            if not it.startswith(own):
                 self.declare(it, renamed(it))
         (self.folder / f"src/{room}.rt").write_text(
-            told(self.head()) + "\n" + told(self.text_of(law)) + "\n", encoding="utf-8"
+            told(self.head(law)) + "\n" + told(self.text_of(law)) + "\n", encoding="utf-8"
         )
         root = self.folder / "src/lib.rt"
         root.write_text(root.read_text(encoding="utf-8").rstrip("\n") + f"\npub mod {room};\n", encoding="utf-8")
@@ -126,6 +126,17 @@ class Laws:
         text = lib.read_text(encoding="utf-8")
         line = re.search(rf"^((?:pub )?mod ){name}$", text, re.MULTILINE)
         lib.write_text(text.rstrip("\n") + f"\n{line[1]}{copied.rpartition('.')[2]}\n", encoding="utf-8")
+
+
+def files_of_laws(folder: pathlib.Path) -> dict[str, pathlib.Path]:
+    """The files of a crate's laws, by module."""
+    return {it.stem: it for it in sorted((folder / "src").glob("laws*.rt"))}
+
+
+def module_with(folder: pathlib.Path, law: str) -> str:
+    """The module of a crate in which a law stands."""
+    head = re.compile(rf"^pub fn {law}\b", re.MULTILINE)
+    return next(it for it, path in files_of_laws(folder).items() if head.search(path.read_text(encoding="utf-8")))
 
 
 def module_of(path: pathlib.Path, folder: pathlib.Path) -> str:

@@ -1,8 +1,13 @@
 pub mod Clocks
+pub mod Deeds
 pub mod Ends
 pub mod Facts
+pub mod Freeing
+pub mod Lines
 pub mod Moves
 pub mod Plays
+pub mod Resets
+pub mod ResetsFreeing
 pub mod Steps
 pub mod Told
 pub mod Whole

@@ -5,6 +5,11 @@
 //! what is promised of it, and `specs/Whole` says which parts came. In `specs/Moves` a name is
 //! freed at one end after the other, so that no call is of both. The main law is
 //! `laws::ends_apart_keep_the_promise`.
+//!
+//! `specs/Deeds` is about ends whose state is written down and read back, `specs/Lines` and
+//! `specs/Freeing` about programs that free names by lines of their own.
 #![tactic(auto)]
 
 pub mod laws;
+pub mod laws_freeing;
+pub mod laws_kept;

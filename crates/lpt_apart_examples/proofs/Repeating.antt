@@ -18,8 +18,8 @@ use Rattle.lpt_apart.specs.Ends.{Ends}
 use Rattle.lpt_apart.specs.Moves.{CanMove, Do, Free, Move}
 use Rattle.lpt_apart.specs.Steps as step
 use Rattle.lpt_apart.specs.Steps.{Restart, Retire, Send}
-use Rattle.lpt_freeing.specs.Freeing.{Act, CanAct, CanActAll, Hears, Makes, Says, Sends, Talk, with_act, with_acts, no_talk, with_answer}
-use Rattle.lpt_freeing.specs.Lines.{Finished, Freed, is_unheard, Line}
+use Rattle.lpt_apart.specs.Freeing.{Act, CanAct, CanActAll, Hears, Makes, Says, Sends, Talk, with_act, with_acts, no_talk, with_answer}
+use Rattle.lpt_apart.specs.Lines.{Finished, Freed, is_unheard, Line}
 use Rattle.lpt_journal_examples.specs.Passes.{own, m20, m9, usual}
 use Rattle.lpt_journal_examples.proofs.LegalRows.{usual_pass}
 use Rattle.lpt_apart_examples.specs.Late.{before_first, before_late, before_second, first_part, FreesTooEarly, late_acts, late_moves, second_part, start}

@@ -16,7 +16,7 @@ ghost use Rattle.lpt_apart_examples.specs.Late.{before_late, late_acts, late_mov
 ghost use Rattle.lpt_apart_examples.specs.Limits.{clock_moves, narrow_log, narrow_moves};
 ghost use Rattle.lpt_apart_examples.specs.Runs.{worked_moves, worked_log};
 ghost use Rattle.lpt_apart_examples.specs.States.{config, mixed_state, mixed_octets, names_sent};
-ghost use Rattle.lpt_freeing.specs.Freeing.{with_acts, CanActAll};
+ghost use Rattle.lpt_apart.specs.Freeing.{with_acts, CanActAll};
 
 /// Ground asks for a load, which is executed; its packet comes again, and is released again. A
 /// message comes up in three parts. One of them is lost and sent again; they are handed over in

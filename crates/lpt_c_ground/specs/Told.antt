@@ -2,8 +2,8 @@
 use Rattle.std.specs.Prelude.{ℕ, ◌==◌, List, length, slice_get, Bool, if◌then◌else◌, Option, Some, None, Ok, Err}
 use Rattle.std.specs.List.{count_by}
 use Rattle.std.specs.Option.{option_map}
-use Rattle.lpt_failures.specs.declared.notice.FailureNotice.{FailureNotice}
-use Rattle.lpt_failures.specs.declared.notice.FailureNotice.TheVariants.{Code, Foreign, Unread}
+use Rattle.lpt_requests.specs.declared.notice.FailureNotice.{FailureNotice}
+use Rattle.lpt_requests.specs.declared.notice.FailureNotice.TheVariants.{Code, Foreign, Unread}
 use Rattle.lpt_ground.specs.declared.asked.Asked.{Asked}
 use Rattle.lpt_ground.specs.declared.asked.Fate.{Fate}
 use Rattle.lpt_ground.specs.declared.asked.Fate.TheVariants.{Waiting, Done, Failed}

@@ -24,7 +24,7 @@ use Rattle.lpt_c_pair.specs.Pairs.{AreEndsOf, IsEndOf, CallPlace, InEnd, WithPro
 use Rattle.lpt_c_pair.proofs.Clockless.{refuses_open, refuses_send, sends, refuses_plain, asks, takes, refuses_expire, expires, gives_up, reads, executes, executes_over, refuses_front}
 use Rattle.lpt_c_pair.proofs.GivenLemmas.{executed_sizes, not_short}
 use Rattle.lpt_c_pair.proofs.Resuming.{resumed_node}
-use Rattle.lpt_apart_kept.proofs.GroundReports.{none_of_delivery, none_of_expiry}
+use Rattle.lpt_apart.proofs.GroundReports.{none_of_delivery, none_of_expiry}
 use Rattle.lpt_c_pair.proofs.Waiting.{stays, beside, adds, replaces, lets_go, freed_other, freed_this, as_listed, none_more}
 use Rattle.lpt_c_pair.proofs.Lemmas.{can_back, free_stays, no_fault, not_refused, not_unsent, sizes_kept, refusal_kept, ground_becomes, craft_becomes, craft_fixed}
 use Rattle.lpt_packet.specs.declared.direction.Direction.{Direction}

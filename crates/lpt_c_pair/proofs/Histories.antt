@@ -1,6 +1,6 @@
 -- Calls that weren't kept can be deleted from what was done.
 use Rattle.std.proofs.Common.{◌≡◌, ◌∙◌, ap, sym, subst, refl, ℕ, List, [], ◌∷◌, Option, Some, None, inl, inr}
-use Rattle.lpt_apart_kept.proofs.Finishing.{finished_runs}
+use Rattle.lpt_apart.proofs.Finishing.{finished_runs}
 use Rattle.lpt_c_end.specs.Contents.{memories_of, memories_told}
 use Rattle.lpt_c_end.specs.declared.end.End.{End}
 use Rattle.lpt_c_end.specs.declared.memories.LptMemory.{LptMemory}

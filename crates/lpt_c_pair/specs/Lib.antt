@@ -1,12 +1,17 @@
 pub mod Answers
+pub mod Called
 pub mod Handed
 pub mod Histories
+pub mod Leavings
 pub mod Loads
+pub mod Nodes
 pub mod Outboxes
 pub mod Pairs
 pub mod Programs
 pub mod Redo
 pub mod Resets
 pub mod Runs
+pub mod TakenBack
 pub mod Ticks
 pub mod Withheld
+pub mod Worked

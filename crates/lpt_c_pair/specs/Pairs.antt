@@ -6,7 +6,7 @@ use Rattle.lpt_apart.specs.Clocks.{Own, own_config, after_all, CanAll}
 use Rattle.lpt_apart.specs.Moves.{Pair, Move, Do, Free, CanMove}
 use Rattle.lpt_apart.specs.Steps as step
 use Rattle.lpt_apart.specs.Steps.{MayCome}
-use Rattle.lpt_apart_kept.specs.Deeds.{with_restart}
+use Rattle.lpt_apart.specs.Deeds.{with_restart}
 use Rattle.lpt_c_end.specs.Accesses.{IsExecutedGiven, drop_read_refusal, given_refusal}
 use Rattle.lpt_c_end.specs.Changes.{IsOpened, IsPartMade, IsPlainMade, IsFinished, IsLetGo, IsDelivered, IsExpired, IsGivenUp, IsTicked, IsRebased, IsRead, IsDropped, IsExecuted, IsRetired, IsRestarted, IsSame}
 use Rattle.lpt_c_end.specs.Contents.{memories_of}

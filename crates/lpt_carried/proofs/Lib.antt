@@ -1,2 +1,6 @@
+mod DateLemmas
 pub mod NameLemmas
 pub mod OwnLemmas
+mod StretchLemmas
+pub mod TallyLemmas
+mod ToldLemmas

@@ -1,4 +1,11 @@
 pub mod Carried
+pub mod Codes
+pub mod Fitting
 pub mod Layouts
+pub mod Losses
 pub mod Own
 pub mod Sizes
+pub mod Skipping
+pub mod Tallies
+pub mod Times
+pub mod Told

@@ -4,8 +4,8 @@ ghost use Rattle.std.specs.Prelude.{◌≡◌};
 ghost use Rattle.lpt_carried.specs.Layouts.{own_layouts, own_layouts_of, tailored_in, SizesFit};
 ghost use Rattle.lpt_part.specs.Splitting.{IsPartSize};
 
+use crate::TimeCode;
 use lpt_layout::{Layout, PartLayout};
-use lpt_layout_time::TimeCode;
 use lpt_packet::Direction;
 
 /// How a mission lays out packets of one type, and the parts in them.

@@ -7,8 +7,7 @@
 mod passing;
 
 pub use lpt_command_line::{GroundWords, PassWords, SettingWords, SpacecraftWords};
-pub use lpt_end_machine::{EndMachine, LastingFiles};
 pub use lpt_ground_commands::ground;
-pub use lpt_io::{Failure, Machine, Status, Voice};
+pub use lpt_io::{EndMachine, Failure, LastingFiles, Machine, Status, Voice};
 pub use lpt_spacecraft_commands::spacecraft;
 pub use passing::pass;

@@ -3,14 +3,16 @@
 ghost use Rattle.lpt_events.specs.Configs.{IsConfig};
 
 use lpt_command_line::{Job, OddsWords, PassWords, SettingWords, WordFault};
-use lpt_end_machine::{EndMachine, PlainMachine, used_twice};
 use lpt_events::Config;
 use lpt_ground_commands::{
     Errand, ErrandKind, GroundNotes, Piece, Places, Ready, Teller, check_places, files_used,
     hear_source, job_lock, limit_of, pieces_of, put_over, ready_of,
 };
 use lpt_ground_run::{Asked, Fate};
-use lpt_io::{Failure, Fault, Status, Voice, Watched, config_of, word_refused};
+use lpt_io::{
+    EndMachine, Failure, Fault, PlainMachine, Status, Voice, Watched, config_of, used_twice,
+    word_refused,
+};
 use lpt_lossy::{Dice, Layouts, LossyLink, Odds, lossy_stream};
 use lpt_spacecraft_commands::{
     Begun, PipeReader, PipeWriter, Unread, Wires, begun_craft, pipe, serve, short_pipe,

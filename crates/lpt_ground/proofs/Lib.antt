@@ -3,4 +3,5 @@ mod OtherLemmas
 mod OverlapLemmas
 pub mod PlaceLemmas
 mod ToldLemmas
+pub mod UplinkLemmas
 pub mod WaitingLemmas

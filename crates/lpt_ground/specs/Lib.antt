@@ -1,7 +1,10 @@
 pub mod Answers
 pub mod Carrying
+pub mod CarryingLarge
 pub mod Others
 pub mod Overlaps
+pub mod Parts
 pub mod Passes
 pub mod Plans
 pub mod Telling
+pub mod Uplinks

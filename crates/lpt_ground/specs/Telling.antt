@@ -4,9 +4,9 @@ use Rattle.lpt_packet.specs.Checksums.{checksum}
 use Rattle.lpt_packet.specs.Numbers.{word_at}
 use Rattle.lpt_pus.specs.Numbers.{long_at}
 use Rattle.lpt_pus.specs.Telemetry.{Telemetry, telemetry_in}
-use Rattle.lpt_failures.specs.declared.notice.FailureNotice.{FailureNotice}
-use Rattle.lpt_failures.specs.declared.reading.RequestReport.{RequestReport}
-use Rattle.lpt_failures.specs.Failures.{any_report_in}
+use Rattle.lpt_requests.specs.declared.notice.FailureNotice.{FailureNotice}
+use Rattle.lpt_requests.specs.declared.reading_failures.RequestReport.{RequestReport}
+use Rattle.lpt_requests.specs.Failures.{any_report_in}
 use Rattle.lpt_ground.specs.declared.asked.Asked.{Asked}
 use Rattle.lpt_ground.specs.declared.asked.Awaits.{Awaits}
 use Rattle.lpt_ground.specs.declared.asked.Awaits.TheVariants.{Completion, Dumped, Checked}

@@ -1,7 +1,7 @@
 //! A request of a pass, and what became of it.
 
-use lpt_failures::FailureNotice;
 use lpt_packet::Octets;
+use lpt_requests::FailureNotice;
 
 /// Octets of a memory, by their place.
 #[derive(Clone, Copy, Debug, PartialEq, Eq)]

@@ -7,10 +7,10 @@ ghost use Rattle.lpt_ground.specs.Passes.{has_come};
 ghost use Rattle.lpt_ground.specs.Telling.{fate_by, is_answer, is_area, is_dump, is_success, report_of, said_of, said_with, settles, waits};
 
 use crate::{Asked, Awaits, Fate, Place, Terms};
-use lpt_failures::{FailureNotice, read_any_report};
 use lpt_packet::laws::seen_is_read;
 use lpt_packet::{Octets, Seen, crc16, read_packet};
 use lpt_pus::{TmHead, read_tm};
+use lpt_requests::{FailureNotice, read_any_report};
 
 /// The service types of verification and of memory management (ECSS-E-ST-70-41C).
 const VERIFICATION: u8 = 1;

@@ -4,10 +4,9 @@ use crate::errands::Errand;
 use crate::ground_told::Teller;
 use crate::places::{ErrandKind, Places};
 use lpt_command_line::GroundWords;
-use lpt_end_machine::LastingFiles;
 use lpt_ground::dumped_octets;
 use lpt_ground_run::Asked;
-use lpt_io::{Failure, Fault, Status, first_failure};
+use lpt_io::{Failure, Fault, LastingFiles, Status, first_failure};
 
 /// Writes the files of what was dumped, also if another couldn't be written.
 ///

@@ -3,9 +3,8 @@
 use crate::ground_rounds::Rounds;
 use crate::ground_told::Teller;
 use crate::job_files::JobFront;
-use lpt_end_machine::LastingFiles;
 use lpt_ground_run::{Asked, Fate, Notes, RunCounts, kept_packets};
-use lpt_io::{Failure, Fault};
+use lpt_io::{Failure, Fault, LastingFiles};
 use std::alloc::{AllocError, Global};
 
 /// What is told and kept of a pass before each of its rounds.

@@ -1,8 +1,7 @@
 //! A run's own source.
 
 use lpt_command_line::{GroundWords, SourceWords};
-use lpt_end_machine::{EndMachine, LastingFiles, awaited_lock};
-use lpt_io::{Failure, Fault, Machine, file_at, tell_text};
+use lpt_io::{EndMachine, Failure, Fault, LastingFiles, Machine, awaited_lock, file_at, tell_text};
 use std::fs;
 use std::io::ErrorKind;
 

@@ -2,9 +2,8 @@
 
 use crate::ground_notes::GroundNotes;
 use lpt_command_line::GroundWords;
-use lpt_end_machine::{EndMachine, PlainMachine};
 use lpt_ground_run::{Cutting, HearFault, Hearing, Terms, TimedWriter};
-use lpt_io::{Failure, Fault, Watched};
+use lpt_io::{EndMachine, Failure, Fault, PlainMachine, Watched};
 use lpt_text::{FromStd, Source, StreamFault, flush_out};
 use std::io::{ErrorKind, Write};
 use std::sync::Wait;

@@ -16,11 +16,13 @@ use crate::pieces::{Piece, pieces_of};
 use crate::places::Places;
 use crate::uplinks::LONGEST_LOAD;
 use lpt_command_line::{GroundWords, Job, SettingWords};
-use lpt_end_machine::{EndMachine, PlainMachine, lock_file, used_twice};
 use lpt_events::Config;
 use lpt_ground::{End, Pass};
 use lpt_ground_run::{Fate, Halt, PlanFault, carry_pass, carry_uplink};
-use lpt_io::{Failure, Fault, Status, Voice, config_of, first_failure, tell_text, word_refused};
+use lpt_io::{
+    EndMachine, Failure, Fault, PlainMachine, Status, Voice, config_of, first_failure, lock_file,
+    tell_text, used_twice, word_refused,
+};
 use lpt_text::StreamFault;
 use std::io::Write;
 use std::sync::Wait;

@@ -1,8 +1,9 @@
 //! Files that a job uses; and dumps for whose files there is no place.
 
 use lpt_command_line::{GroundWords, Job, SettingWords, SourceWords, SpacecraftWords};
-use lpt_end_machine::{Usage, UsedFile, add_craft_files, add_file, add_settings_file};
-use lpt_io::{Failure, Fault, check_place};
+use lpt_io::{
+    Failure, Fault, Usage, UsedFile, add_craft_files, add_file, add_settings_file, check_place,
+};
 use std::alloc::{AllocError, Global};
 use std::rt::Files;
 

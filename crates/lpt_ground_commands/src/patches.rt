@@ -1,11 +1,11 @@
 //! A list of files that are loaded, each to an address of a memory.
 
 use crate::pieces::Piece;
-use lpt_end_machine::{Usage, UsedFile, add_file, used_twice};
 use lpt_ground::overlap;
 use lpt_ground_run::AreaPlace;
 use lpt_io::{
-    Failure, Fault, Machine, STANDARD, WordFault, file_at, read_file, tell_text, word_refused,
+    Failure, Fault, Machine, STANDARD, Usage, UsedFile, WordFault, add_file, file_at, read_file,
+    tell_text, used_twice, word_refused,
 };
 use lpt_settings::{Reason, Wrong, complain_of_toml, has_only, number, unknown_key};
 use std::alloc::{AllocError, Global};

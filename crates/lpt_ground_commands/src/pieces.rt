@@ -2,8 +2,7 @@
 
 use crate::patches::patches_at;
 use lpt_command_line::{AreaWords, GroundWords, Job};
-use lpt_end_machine::UsedFile;
-use lpt_io::{Failure, Fault, Machine, file_at};
+use lpt_io::{Failure, Fault, Machine, UsedFile, file_at};
 use lpt_packet::Octets;
 
 /// An area of a job.

@@ -9,10 +9,10 @@ use Rattle.lpt_ground.specs.declared.pass.Step.TheVariants.{Stop}
 use Rattle.lpt_ground.specs.Carrying.{Answer, Came, Went, state_answered, come_to, octets_written}
 use Rattle.lpt_ground.specs.Passes.{PassState, next_step}
 use Rattle.lpt_ground.proofs.CarryLemmas.{done-told}
-use Rattle.lpt_ground_large.specs.declared.large.Large.{Large}
-use Rattle.lpt_ground_large.specs.Carrying as large
-use Rattle.lpt_ground_large.specs.Uplinks.{Way, next_way}
-use Rattle.lpt_ground_large.proofs.UplinkLemmas.{done-is-told}
+use Rattle.lpt_ground.specs.declared.large.Large.{Large}
+use Rattle.lpt_ground.specs.CarryingLarge as large
+use Rattle.lpt_ground.specs.Uplinks.{Way, next_way}
+use Rattle.lpt_ground.proofs.UplinkLemmas.{done-is-told}
 use Rattle.lpt_ground_run.specs.Carried.{CameTo, CameUp}
 use Rattle.lpt_ground_run.specs.Laws.{KeptRunsAreOnePass}
 

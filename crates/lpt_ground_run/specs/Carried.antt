@@ -7,9 +7,9 @@ use Rattle.lpt_ground.specs.declared.pass.End.TheVariants.{Done}
 use Rattle.lpt_ground.specs.declared.pass.Step.TheVariants.{Stop}
 use Rattle.lpt_ground.specs.Carrying.{Answer, AllTold, come_to, packets_of, octets_written}
 use Rattle.lpt_ground.specs.Passes.{PassState, next_step}
-use Rattle.lpt_ground_large.specs.declared.large.Large.{Large}
-use Rattle.lpt_ground_large.specs.Carrying as large
-use Rattle.lpt_ground_large.specs.Uplinks.{Way, next_way}
+use Rattle.lpt_ground.specs.declared.large.Large.{Large}
+use Rattle.lpt_ground.specs.CarryingLarge as large
+use Rattle.lpt_ground.specs.Uplinks.{Way, next_way}
 
 -- Whatever the ear answered: the pass came to this end by it, and wrote what follows from it. If
 -- it is done, of each request that waited one of the packets among the answers says so.

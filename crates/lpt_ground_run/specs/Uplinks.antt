@@ -2,9 +2,9 @@
 use Rattle.std.specs.Prelude.{◌≡◌, ◌≤◌, ◌<◌, ℕ, ◌+◌, ◌%◌, length, Option, Some, None}
 use Rattle.lpt_ground.specs.Passes.{PassState}
 use Rattle.lpt_ground.specs.declared.asked.Asked.{Asked}
-use Rattle.lpt_ground_large.specs.declared.large.Names.{Names}
-use Rattle.lpt_ground_large.specs.declared.uplink.Uplink.{Uplink}
-use Rattle.lpt_ground_large.specs.Uplinks.{way_at_first, way_of}
+use Rattle.lpt_ground.specs.declared.large.Names.{Names}
+use Rattle.lpt_ground.specs.declared.uplink.Uplink.{Uplink}
+use Rattle.lpt_ground.specs.Uplinks.{way_at_first, way_of}
 use Rattle.lpt_ground_run.specs.declared.heads.Heads.{Heads}
 
 -- the uplink begins, and what goes up is the request, which is longer than a part; its parts'

@@ -2,12 +2,11 @@
 
 ghost use Rattle.std.specs.Prelude.{◌≡◌, Ok, IfOk};
 ghost use Rattle.lpt_ground.specs.Passes.{state_of};
-ghost use Rattle.lpt_ground_large.specs.Uplinks.{way_of};
+ghost use Rattle.lpt_ground.specs.Uplinks.{way_of};
 ghost use Rattle.lpt_ground_run.specs.Carried.{CameTo, CameUp};
 
 use crate::hearing::{Hearing, Notes};
-use lpt_ground::{End, Pass, carry};
-use lpt_ground_large::{Uplink, carry_large};
+use lpt_ground::{End, Pass, Uplink, carry, carry_large};
 use lpt_text::{Sink, StreamFault};
 use std::alloc::Global;
 use std::sync::Wait;

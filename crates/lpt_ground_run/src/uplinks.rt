@@ -5,8 +5,7 @@ ghost use Rattle.lpt_part.specs.Splitting.{IsPartSize};
 ghost use Rattle.lpt_ground_run.specs.Uplinks.{IsUplink};
 
 use crate::{Heads, PlanFault};
-use lpt_ground::Asked;
-use lpt_ground_large::{Large, Names, Uplink};
+use lpt_ground::{Asked, Large, Names, Uplink};
 use lpt_packet::{LONGEST_PACKET, Octets};
 use std::alloc::Global;
 

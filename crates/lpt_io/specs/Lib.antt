@@ -1,5 +1,9 @@
+pub mod Chains
+pub mod Disks
 pub mod Ends
 pub mod Faults
+pub mod Keeping
 pub mod Paces
+pub mod Spans
 pub mod Voices
 pub mod Words

@@ -2,7 +2,7 @@
 
 use crate::end::Failure;
 use crate::fault::Fault;
-use lpt_disk::{Disk, part_of};
+use crate::{Disk, part_of};
 use std::alloc::Global;
 use std::fs::{File, Metadata, OpenFile, OpenOptions};
 use std::io::{ErrorKind, Write};
@@ -23,7 +23,7 @@ pub fn write_beside<R: Files + AllocGlobal>(
     octets: &[u8],
 ) -> Result<(), Failure> {
     let part = part_name(rt.alloc(), path)?;
-    lpt_disk::write_whole(&mut PlainDisk { rt }, part.as_str(), path, octets)
+    crate::write_whole(&mut PlainDisk { rt }, part.as_str(), path, octets)
 }
 
 /// Does the same, and forces to the disk first the octets, and then the name. If this path is a
@@ -45,7 +45,7 @@ where
         Err(error) => return Err(not_written(rt.alloc(), path, &error)),
     };
     let part = part_name(rt.alloc(), path.as_str())?;
-    lpt_disk::write_for_good(&mut ForcedDisk { rt }, part.as_str(), path.as_str(), octets)
+    crate::saving_disk::write_for_good(&mut ForcedDisk { rt }, part.as_str(), path.as_str(), octets)
 }
 
 /// Refuses a path at which `write_for_good` would find no place for a file: something else is

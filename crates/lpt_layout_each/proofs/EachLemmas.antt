@@ -1,10 +1,10 @@
 -- The pieces of a stream, one after the other.
 use Rattle.std.proofs.Common.{◌≡◌, ◌∙◌, ap, sym, subst, refl, inl, inr, Bool, true, false, List, ℕ, [], ◌∷◌, ◌++◌, Option, None, Ok, Err, Result, append-nil}
 use Rattle.std.specs.Prelude.{IfOk}
-use Rattle.lpt_skips.specs.declared.skips.Skips.{Skips}
-use Rattle.lpt_skips.specs.declared.wanted.Wanted.{Wanted}
-use Rattle.lpt_skips.specs.Tallies.{piece_noted, nothing_noted, skips_of}
-use Rattle.lpt_skips.proofs.TallyLemmas.{noted-append}
+use Rattle.lpt_carried.specs.declared.skips.Skips.{Skips}
+use Rattle.lpt_carried.specs.declared.wanted.Wanted.{Wanted}
+use Rattle.lpt_carried.specs.Tallies.{piece_noted, nothing_noted, skips_of}
+use Rattle.lpt_carried.proofs.TallyLemmas.{noted-append}
 use Rattle.lpt_stream.specs.declared.piece_kind.PieceKind.{PieceKind}
 use Rattle.lpt_stream.specs.declared.piece_kind.PieceKind.TheVariants.{Whole, Damaged, Stray}
 use Rattle.lpt_stream.specs.declared.cut.Cut.{Cut}

@@ -1,5 +1,8 @@
 mod AloneLemmas
+mod CountLemmas
 pub mod EachLemmas
+mod EndLemmas
+mod FileLemmas
 pub mod FitLemmas
 mod FrontLemmas
 pub mod HeldsLemmas
@@ -16,5 +19,7 @@ mod SoundLemmas
 mod SplitLemmas
 mod StepLemmas
 mod SureLemmas
+mod TakeLemmas
 pub mod TellLemmas
 mod TurnLemmas
+mod WholeLemmas

@@ -1,4 +1,6 @@
 pub mod Eaches
+pub mod Files
+pub mod Filing
 pub mod Helds
 pub mod Kepts
 pub mod Laws

@@ -5,7 +5,7 @@ use Rattle.std.specs.List.Sorted.{IsStrictlySortedBy}
 use Rattle.lpt_carried.specs.declared.name.Name.{Name}
 use Rattle.lpt_carried.specs.declared.reading.Reading.{Reading}
 use Rattle.lpt_carried.specs.declared.skip.Skip.{Skip}
-use Rattle.lpt_skips.specs.declared.wanted.Wanted.{Wanted}
+use Rattle.lpt_carried.specs.declared.wanted.Wanted.{Wanted}
 use Rattle.lpt_carried.specs.Carried.{Named, part_carried, name_of, part_of, same_name}
 use Rattle.lpt_layout_join.specs.Came.{Came, count_in, highest}
 use Rattle.lpt_layout_each.specs.declared.waiting.WaitingAs.{WaitingAs}

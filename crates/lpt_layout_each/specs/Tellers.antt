@@ -1,6 +1,6 @@
 -- What was told of a stream's pieces while it is read.
 use Rattle.std.specs.Prelude.{◌≡◌, List, Option, None}
-use Rattle.lpt_skips.specs.Tallies.{skips_of}
+use Rattle.lpt_carried.specs.Tallies.{skips_of}
 use Rattle.lpt_stream.specs.Pieces.{Piece, packets_of}
 use Rattle.lpt_layout_each.specs.declared.each.Teller.{Teller}
 use Rattle.lpt_layout_each.specs.Helds.{HoldsEach}

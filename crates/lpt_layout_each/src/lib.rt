@@ -6,7 +6,7 @@
 //!
 //! The main types are `NewsAs`, and `TakerAs`, who is told of them. The first call is `each_as`.
 //! Who does something else with each packet, too, keeps `HeldsAs`, and at the end calls `leave_as`,
-//! or `pop_left` for one name after the other.
+//! or `pop_left` for one name after the other. `write_messages` makes a file of each in a `Shelf`.
 #![tactic(auto)]
 
 mod alone;
@@ -18,19 +18,23 @@ mod kept;
 pub mod laws;
 mod leaving;
 mod lefts;
+mod naming;
 mod news;
 mod run;
+mod shelf;
 mod turn;
 mod waiting;
+mod writing;
 
 pub use each::each_as;
 pub use helds::HeldsAs;
 pub use leaving::leave_as;
 pub use lefts::pop_left;
-pub use lpt_carried::{CarriedPart, Name, Reading};
+pub use lpt_carried::{CarriedPart, Name, Reading, Skips};
 pub use lpt_layout::Octets;
 pub use lpt_layout_join::{CameAs, MisfitAs};
-pub use lpt_skips::Skips;
 pub use lpt_text::{Source, StreamFault};
 pub use news::{NewsAs, TakerAs};
+pub use shelf::Shelf;
 pub use waiting::WaitingAs;
+pub use writing::write_messages;

@@ -7,13 +7,13 @@ use Rattle.toml_datetime.specs.Parse.{parse_datetime}
 use Rattle.toml.specs.Data.{Data, as_datetime, as_str, Members, get_member}
 use Rattle.lpt_memory.specs.Fields.{◌>>=◌}
 use Rattle.lpt_settings.specs.Numbers.{number_in}
-use Rattle.lpt_layout_time.specs.declared.code.Submillisecond.{Submillisecond}
-use Rattle.lpt_layout_time.specs.declared.code.Submillisecond.TheVariants.{Absent, Microseconds, Picoseconds}
-use Rattle.lpt_layout_time.specs.declared.code.TimeCode.{TimeCode}
-use Rattle.lpt_layout_time.specs.declared.code.TimeFields.{TimeFields}
-use Rattle.lpt_layout_time.specs.declared.code.TimeFields.TheVariants.{Unsegmented, DaySegmented}
-use Rattle.lpt_layout_time.specs.Codes.{code_octets}
-use Rattle.lpt_layout_time.specs.Times.{day_number}
+use Rattle.lpt_carried.specs.declared.code.Submillisecond.{Submillisecond}
+use Rattle.lpt_carried.specs.declared.code.Submillisecond.TheVariants.{Absent, Microseconds, Picoseconds}
+use Rattle.lpt_carried.specs.declared.code.TimeCode.{TimeCode}
+use Rattle.lpt_carried.specs.declared.code.TimeFields.{TimeFields}
+use Rattle.lpt_carried.specs.declared.code.TimeFields.TheVariants.{Unsegmented, DaySegmented}
+use Rattle.lpt_carried.specs.Codes.{code_octets}
+use Rattle.lpt_carried.specs.Times.{day_number}
 use Rattle.lpt_layout_file.specs.declared.times.TimeField.{TimeField}
 
 -- so many octets, of which nothing more is known

@@ -37,9 +37,8 @@ mod times;
 mod values;
 
 pub use complaint::why_refused;
-pub use lpt_carried::{Layouts, Tailored};
+pub use lpt_carried::{Layouts, Tailored, TimeCode};
 pub use lpt_layout::{Layout, PartLayout};
-pub use lpt_layout_time::TimeCode;
 pub use lpt_packet::Direction;
 pub use lpt_settings::Complaint;
 pub use reading::read_layouts;

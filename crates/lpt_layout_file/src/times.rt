@@ -5,10 +5,10 @@ ghost use Rattle.std.specs.Result.{result_ok};
 ghost use Rattle.toml.specs.Data.{get_member};
 ghost use Rattle.toml.specs.View.{view, table_view};
 ghost use Rattle.lpt_settings.specs.Numbers.{number_in};
-ghost use Rattle.lpt_layout_time.specs.Codes.{field_octets};
+ghost use Rattle.lpt_carried.specs.Codes.{field_octets};
 ghost use Rattle.lpt_layout_file.specs.Times.{code_in, code_or, time_coded, time_counted, counts_in, date_or, day_in, day_of, days_in, parts_in, preamble_in, since, time_at, time_in, time_or};
 
-use lpt_layout_time::{Submillisecond, TimeCode, TimeFields, day_number};
+use lpt_carried::{Submillisecond, TimeCode, TimeFields, day_number};
 use lpt_settings::{Reason, Wrong, number_of_value};
 use toml::{Table, Value};
 use toml_datetime::Datetime;

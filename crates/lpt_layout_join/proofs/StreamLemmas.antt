@@ -25,12 +25,12 @@ use Rattle.lpt_carried.specs.declared.skip.Skip.TheVariants.{OtherApid}
 use Rattle.lpt_carried.specs.Carried.{Named, part_carried, kind_to, name_of, of_kind, of_message, of_part, of_sight, part_of, same_name}
 use Rattle.lpt_carried.specs.Sizes.{is_size, size_for}
 use Rattle.lpt_carried.proofs.NameLemmas.{same_name-true}
-use Rattle.lpt_skips.specs.declared.skips.Skips.{Skips}
-use Rattle.lpt_skips.specs.declared.wanted.Wanted.{Wanted}
-use Rattle.lpt_skips.specs.declared.why.Why.TheVariants.{Taken, OtherName}
-use Rattle.lpt_skips.specs.Skipping.{sizeless, why_carried, why_name}
-use Rattle.lpt_skips.specs.Tallies.{piece_noted, nothing_noted, skips_of, with_octets}
-use Rattle.lpt_skips.proofs.TallyLemmas.{noted-append, taken-noted}
+use Rattle.lpt_carried.specs.declared.skips.Skips.{Skips}
+use Rattle.lpt_carried.specs.declared.wanted.Wanted.{Wanted}
+use Rattle.lpt_carried.specs.declared.why.Why.TheVariants.{Taken, OtherName}
+use Rattle.lpt_carried.specs.Skipping.{sizeless, why_carried, why_name}
+use Rattle.lpt_carried.specs.Tallies.{piece_noted, nothing_noted, skips_of, with_octets}
+use Rattle.lpt_carried.proofs.TallyLemmas.{noted-append, taken-noted}
 use Rattle.lpt_stream.specs.declared.piece_kind.PieceKind.{PieceKind}
 use Rattle.lpt_stream.specs.declared.piece_kind.PieceKind.TheVariants.{Whole, Damaged, Stray}
 use Rattle.lpt_stream.specs.Pieces.{Piece, packets_of}

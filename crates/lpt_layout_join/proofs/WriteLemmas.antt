@@ -9,7 +9,7 @@ use Rattle.lpt_carried.specs.declared.name.Name.{Name}
 use Rattle.lpt_carried.specs.declared.reading.Reading.{Reading}
 use Rattle.lpt_carried.specs.Carried.{part_carried, cut, part_of}
 use Rattle.lpt_carried.proofs.NameLemmas.{same_name-refl}
-use Rattle.lpt_skips.specs.declared.wanted.Wanted.{Wanted}
+use Rattle.lpt_carried.specs.declared.wanted.Wanted.{Wanted}
 use Rattle.lpt_layout_join.specs.declared.ending.JoinEnd.{JoinEnd}
 use Rattle.lpt_layout_join.specs.declared.ending.JoinEnd.TheVariants.{Missing}
 use Rattle.lpt_layout_join.specs.declared.gathering.Gathering.{Gathering}

@@ -11,7 +11,7 @@ use Rattle.lpt_carried.specs.declared.name.Name.{Name}
 use Rattle.lpt_carried.specs.declared.reading.Reading.{Reading}
 use Rattle.lpt_carried.specs.Carried.{same_name}
 use Rattle.lpt_carried.proofs.NameLemmas.{same_name-true}
-use Rattle.lpt_skips.specs.declared.wanted.Wanted.{Wanted}
+use Rattle.lpt_carried.specs.declared.wanted.Wanted.{Wanted}
 use Rattle.lpt_stream.specs.Pieces.{Piece, packets_of}
 use Rattle.lpt_layout_join.specs.declared.ending.JoinEnd.{JoinEnd}
 use Rattle.lpt_layout_join.specs.declared.ending.JoinEnd.TheVariants.{Written}

@@ -1,7 +1,7 @@
 -- What is kept of a stream's pieces while it is read.
 use Rattle.std.specs.Prelude.{◌≡◌, ℕ, List}
-use Rattle.lpt_skips.specs.declared.wanted.Wanted.{Wanted}
-use Rattle.lpt_skips.specs.Tallies.{skips_of}
+use Rattle.lpt_carried.specs.declared.wanted.Wanted.{Wanted}
+use Rattle.lpt_carried.specs.Tallies.{skips_of}
 use Rattle.lpt_stream.specs.Pieces.{Piece, packets_of}
 use Rattle.lpt_layout_join.specs.declared.several.Findings.{Findings}
 use Rattle.lpt_layout_join.specs.declared.several.Gatherer.{Gatherer}

@@ -8,8 +8,8 @@ use Rattle.lpt_packet.specs.declared.direction.Direction.{Direction}
 use Rattle.lpt_packet.specs.declared.fault.PacketFault.{PacketFault}
 use Rattle.lpt_packet.specs.declared.packet.PacketKind.{PacketKind}
 use Rattle.lpt_packet.specs.Packets.{Sight, IdlePacket, APacket}
-use Rattle.lpt_skips.specs.declared.wanted.Wanted.{Wanted}
-use Rattle.lpt_skips.specs.Tallies.{skips_of}
+use Rattle.lpt_carried.specs.declared.wanted.Wanted.{Wanted}
+use Rattle.lpt_carried.specs.Tallies.{skips_of}
 use Rattle.lpt_stream.specs.declared.cut.Cut.{Cut}
 use Rattle.lpt_stream.specs.Pieces.{CutsBy, Piece, packets_of}
 use Rattle.lpt_text.specs.Streams.{AppendsPart}

@@ -1,8 +1,8 @@
 //! How a join ends.
 
 use crate::Gatherings;
+use lpt_carried::Skips;
 use lpt_packet::PacketFault;
-use lpt_skips::Skips;
 use thiserror::Error;
 
 /// Why what was joined isn't written.

@@ -11,7 +11,7 @@ ghost use Rattle.lpt_part.specs.Parts.{nth_part};
 ghost use Rattle.lpt_part.specs.Splitting.{kind_at, part_count};
 ghost use Rattle.lpt_carried.specs.declared.name.Name.{Name};
 ghost use Rattle.lpt_carried.specs.declared.reading.Reading.{Reading};
-ghost use Rattle.lpt_skips.specs.declared.wanted.Wanted.{Wanted};
+ghost use Rattle.lpt_carried.specs.declared.wanted.Wanted.{Wanted};
 ghost use Rattle.lpt_stream.specs.Pieces.{Piece, packets_of};
 ghost use Rattle.lpt_layout_join.specs.Came.{message_of, octets_of};
 ghost use Rattle.lpt_carried.specs.Carried.{part_carried, kind_to, same_name};

@@ -7,15 +7,14 @@ ghost use Rattle.lpt_text.specs.Streams.{ReadEnds};
 ghost use Rattle.lpt_carried.specs.Carried.{part_carried, cut, name_of, part_named, part_of};
 ghost use Rattle.lpt_stream.specs.declared.piece_kind.PieceKind.TheVariants.{Whole};
 ghost use Rattle.lpt_stream.specs.Pieces.{IsSealedBy};
-ghost use Rattle.lpt_skips.specs.Tallies.{skips_of};
+ghost use Rattle.lpt_carried.specs.Tallies.{skips_of};
 ghost use Rattle.lpt_stream.specs.Reads.{IsEndlessBy};
 ghost use Rattle.lpt_layout_join.specs.Gatherings.{GivesEach, is_wanted};
 ghost use Rattle.lpt_layout_join.specs.Writes.{ReadsCut};
 
 use crate::nowhere::Nowhere;
 use crate::{Counts, Gatherings};
-use lpt_carried::{CarriedPart, Name, carried_in};
-use lpt_skips::{Skips, Wanted};
+use lpt_carried::{CarriedPart, Name, Skips, Wanted, carried_in};
 use lpt_stream::{Cut, PieceKind, Taker, take_pieces};
 use lpt_text::{Source, StreamFault};
 use std::alloc::{AllocError, Global};

@@ -12,10 +12,9 @@ ghost use Rattle.lpt_layout_join.specs.Gatherings.{GivesEach, IsChosen, IsOnly, 
 ghost use Rattle.lpt_layout_join.specs.Writes.{ChosenFails, Ends, EndsAs, EndsFailed, JoinLeaves, JoinsTo, WritesEnd, WritesFit, end_missing, end_of, end_whole, kind_misfit, misfit, unfit, unsure};
 
 use crate::{Gathering, Gatherings, JoinEnd, JoinReport, MisfitAs, gather_stream};
-use lpt_carried::{Name, Reading};
+use lpt_carried::{Name, Reading, Wanted};
 use lpt_layout::{SeenAs, read_packet_as};
 use lpt_packet::{Direction, PacketKind};
-use lpt_skips::Wanted;
 use lpt_text::{Sink, Source, StreamFault, write_out};
 use std::alloc::{AllocError, Global};
 

@@ -17,8 +17,8 @@ use Rattle.lpt_part.specs.declared.kind.Kind.{Kind}
 use Rattle.lpt_part.specs.declared.reason.Reason.{Reason}
 use Rattle.lpt_part.specs.Aborts.{abort_in, reason_code}
 use Rattle.lpt_part.specs.Parts.{Piece}
-use Rattle.lpt_areas.specs.declared.areas.Areas.{Areas}
-use Rattle.lpt_areas.specs.Areas.{areas_in}
+use Rattle.lpt_script_text.specs.declared.areas.Areas.{Areas}
+use Rattle.lpt_script_text.specs.Areas.{areas_in}
 use Rattle.lpt_list.specs.declared.form.Form.{Form}
 use Rattle.lpt_list.specs.declared.form.Form.TheVariants.{Text, Json}
 use Rattle.lpt_part.specs.Kinds.{kind_word}

@@ -15,15 +15,15 @@ use Rattle.lpt_pus.specs.FaultNames as of_header
 use Rattle.lpt_part.specs.declared.kind.Kind.{Kind}
 use Rattle.lpt_part.specs.Parts.{Piece}
 use Rattle.lpt_events.specs.Arrivals.{carried_kind}
-use Rattle.lpt_areas.specs.Areas.{areas_in}
+use Rattle.lpt_script_text.specs.Areas.{areas_in}
 use Rattle.lpt_layout.specs.declared.width.Width.{Width}
 use Rattle.lpt_layout.specs.declared.width.Width.TheVariants.{Absent, Octet, Word, Long}
 use Rattle.lpt_layout.specs.declared.layout.Layout.{Layout}
 use Rattle.lpt_layout.specs.Messages.{Said, message_verdict}
 use Rattle.lpt_layout.specs.Packets.{verdict_as}
 use Rattle.lpt_layout.specs.Parts.{a_size, octets_at, part_verdict_as}
-use Rattle.lpt_layout_time.specs.declared.code.TimeCode.{TimeCode}
-use Rattle.lpt_layout_time.specs.Times.{time_text}
+use Rattle.lpt_carried.specs.declared.code.TimeCode.{TimeCode}
+use Rattle.lpt_carried.specs.Times.{time_text}
 use Rattle.lpt_carried.specs.declared.layouts.Layouts.{Layouts}
 use Rattle.lpt_carried.specs.declared.layouts.Tailored.{Tailored}
 use Rattle.lpt_carried.specs.Layouts.{tailored_in}

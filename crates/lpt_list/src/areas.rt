@@ -5,7 +5,7 @@ ghost use Rattle.std.specs.String.{string_bytes};
 ghost use Rattle.lpt_list.specs.Items.{areas_said, items_text};
 
 use crate::Form;
-use lpt_areas::Areas;
+use lpt_script_text::Areas;
 use std::alloc::{AllocError, Global};
 
 /// The areas that a message names, as items behind others: the memory, how many areas, and the

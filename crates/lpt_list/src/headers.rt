@@ -4,14 +4,13 @@ ghost use Rattle.std.specs.Prelude.{◌≡◌, ◌++◌, [], IfOk, OnOk, Some};
 ghost use Rattle.std.specs.String.{string_bytes};
 ghost use Rattle.lpt_packet.specs.Packets.{fields_of};
 ghost use Rattle.lpt_layout.specs.Messages.{message_said};
-ghost use Rattle.lpt_layout_time.specs.Times.{time_text};
+ghost use Rattle.lpt_carried.specs.Times.{time_text};
 ghost use Rattle.lpt_list.specs.Items.{Number, Word, item_text, items_text, primary_items, type_text};
 ghost use Rattle.lpt_list.specs.Said.{date_items, head_items, message_items, number_items, octet_items, octets_items, plain_items, short_number, time_items, user_items, width_items};
 
 use crate::Form;
-use lpt_carried::Tailored;
+use lpt_carried::{Tailored, TimeCode, time_text};
 use lpt_layout::{Layout, Message, Width};
-use lpt_layout_time::{TimeCode, time_text};
 use lpt_packet::PacketKind;
 use std::alloc::{AllocError, Global};
 

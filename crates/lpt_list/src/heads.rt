@@ -15,12 +15,12 @@ use crate::headers::{add_message, add_primary};
 use crate::parts::part_at;
 use crate::reports::add_reported;
 use crate::segments::print_refused;
-use lpt_areas::read_areas;
 use lpt_carried::{Layouts, Tailored};
 use lpt_events::part_kind;
 use lpt_layout::{Message, PacketAs, SeenAs, read_tc_as, read_tm_as};
 use lpt_packet::{Direction, PacketFault, PacketKind};
 use lpt_part::Kind;
+use lpt_script_text::read_areas;
 use std::alloc::{AllocError, Global};
 
 // Adds what octets say by the layout of their packet type, which are read as this.

@@ -6,9 +6,9 @@ ghost use Rattle.lpt_list.specs.Items.{abort_items, abort_said, code_items, item
 
 use crate::Form;
 use crate::areas::add_areas;
-use lpt_areas::read_areas;
 use lpt_packet::Direction;
 use lpt_part::{ABORT, Reason, TRANSFER, read_abort};
+use lpt_script_text::read_areas;
 use lpt_verify::{Report, read_report};
 use std::alloc::{AllocError, Global};
 

@@ -5,17 +5,15 @@ ghost use Rattle.lpt_events.specs.Configs.{IsConfig};
 
 use crate::joins::{source_of, tell, tell_none, tell_skips, unfit_text, who};
 use crate::placed_joins::write_placed;
-use lpt_carried::{Name, Reading};
+use lpt_carried::{Name, Reading, Skips, Wanted, name_text};
 use lpt_command_line::{JoinWords, Span};
-use lpt_each_files::{Shelf, write_messages};
 use lpt_events::Config;
 use lpt_io::{
     Failure, Fault, Machine, Packets, Status, Voice, opened_packets, packets_end, write_beside,
 };
-use lpt_layout_each::{CameAs, NewsAs};
+use lpt_layout_each::{CameAs, NewsAs, Shelf, write_messages};
 use lpt_layout_join::{PartNumbers, missing_list};
 use lpt_part::Kind;
-use lpt_skips::{Skips, Wanted, name_text};
 use lpt_text::StreamFault;
 use std::alloc::{AllocError, Global};
 use std::fs;

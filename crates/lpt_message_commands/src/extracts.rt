@@ -4,7 +4,7 @@ ghost use Rattle.lpt_events.specs.Configs.{IsConfig};
 
 use crate::extract_joins::{extract_parts, reading_down};
 use crate::extract_notices::Telling;
-use lpt_carried::{Layouts, Reading};
+use lpt_carried::{Layouts, Reading, Skips, Wanted as Parts};
 use lpt_command_line::ExtractWords;
 use lpt_events::Config;
 use lpt_extract::{ExtractEnd, Extracted, ImagePlace, Others, Tally, Wanted, extract_stream};
@@ -13,7 +13,6 @@ use lpt_io::{
     opened_packets, output, packets_end, tell_no_packets, tell_place, tell_text,
 };
 use lpt_packet::Direction;
-use lpt_skips::{Skips, Wanted as Parts};
 use lpt_text::StreamFault;
 use std::alloc::{AllocError, Global};
 use std::collections::BTreeMap;

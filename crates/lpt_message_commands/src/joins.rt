@@ -2,7 +2,7 @@
 
 ghost use Rattle.lpt_events.specs.Configs.{IsConfig};
 
-use lpt_carried::{Name, Reading};
+use lpt_carried::{Name, Reading, Skips, Wanted, name_text};
 use lpt_command_line::{JoinWords, Span};
 use lpt_events::Config;
 use lpt_io::{
@@ -13,7 +13,6 @@ use lpt_layout::Width;
 use lpt_layout_join::{
     Gathering, JoinEnd, JoinReport, MisfitAs, PartNumbers, end_of, join_as, missing_list,
 };
-use lpt_skips::{Skips, Wanted, name_text};
 use lpt_text::StreamFault;
 use std::alloc::{AllocError, Global};
 

@@ -2,14 +2,13 @@
 
 use crate::eaches::{EachWords, write_each};
 use crate::joins::{OneWords, join_from};
-use lpt_carried::{Name, Reading};
+use lpt_carried::{Name, Reading, Wanted};
 use lpt_command_line::{JoinLayoutWords, WideName, WordFault, name_within};
 use lpt_events::Config;
 use lpt_io::{
     Failure, Machine, Status, Voice, layouts_at, opened_packets, reading_of, word_refused,
 };
 use lpt_layout::Width;
-use lpt_skips::Wanted;
 use lpt_split::greatest;
 
 /// Writes the message that packets of a mission's layout carry.

@@ -8,12 +8,10 @@ ghost use Rattle.std.specs.Prelude.{◌≡◌, ◌⊎◌, IfErr, IfOk};
 ghost use Rattle.lpt_stream.specs.declared.piece_kind.PieceKind.TheVariants.{Whole};
 
 use crate::eaches::{EachWords, MachineShelf, missing_of};
-use lpt_carried::{Name, Reading, carried_in};
-use lpt_each_files::Shelf;
+use lpt_carried::{Name, Reading, Skips, Wanted, carried_in};
 use lpt_io::{Machine, Packets, write_all_out};
-use lpt_layout_each::{CameAs, HeldsAs, NewsAs, TakerAs, leave_as};
+use lpt_layout_each::{CameAs, HeldsAs, NewsAs, Shelf, TakerAs, leave_as};
 use lpt_layout_join::Nowhere;
-use lpt_skips::{Skips, Wanted};
 use lpt_stream::{Cut, PieceKind, Taker, take_pieces};
 use lpt_text::StreamFault;
 use std::alloc::{AllocError, Global};

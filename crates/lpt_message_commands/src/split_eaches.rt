@@ -12,8 +12,7 @@ use lpt_io::{
 };
 use lpt_layout::Width;
 use lpt_packet::Direction;
-use lpt_split::{SplitEnd, greatest};
-use lpt_split_each::{EachEnd, EachSplit, EachWanted, Pick, split_each};
+use lpt_split::{EachEnd, EachSplit, EachWanted, Pick, SplitEnd, greatest, split_each};
 use lpt_text::StreamFault;
 use std::alloc::{AllocError, Global};
 

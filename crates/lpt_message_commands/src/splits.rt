@@ -9,13 +9,12 @@ use lpt_carried::{Layouts, Tailored};
 use lpt_command_line::{SplitOneWords, SplitWords, WideName, WordFault, name_within};
 use lpt_events::Config;
 use lpt_io::{
-    Failure, Incoming, Machine, Status, finish, first_failure, octets_word, open_input, output,
-    own_or_read, read_failure, reading_of, tell_place, word_refused,
+    Failure, Incoming, Keeping, Machine, Status, finish, first_failure, octets_word, open_input,
+    output, own_or_read, read_failure, reading_of, tell_place, word_refused,
 };
 use lpt_layout::Width;
 use lpt_layout_join::{MisfitAs, unfit};
 use lpt_packet::LONGEST_PACKET;
-use lpt_sources::Keeping;
 use lpt_split::{Form, SplitEnd, Wanted, Writing, greatest, split_message};
 use lpt_stream::whole_length;
 use lpt_text::StreamFault;

@@ -3,7 +3,7 @@ use Rattle.std.proofs.Common.{◌≡◌, ◌∙◌, ap, sym, refl, ℕ, ◌==◌
 use Rattle.std.specs.Prelude.{◌||◌}
 use Rattle.std.specs.List.{flat_map, list_any}
 use Rattle.std.specs.Option.{option_or}
-use Rattle.lpt_failures.specs.declared.notice.FailureNotice.{FailureNotice}
+use Rattle.lpt_requests.specs.declared.notice.FailureNotice.{FailureNotice}
 use Rattle.lpt_list.specs.declared.form.Form.{Form}
 use Rattle.lpt_outcomes.specs.declared.asked.Asked.{Asked}
 use Rattle.lpt_outcomes.specs.declared.news.ReportNews.{ReportNews}

@@ -10,10 +10,10 @@ use Rattle.lpt_verify.specs.declared.report.Report.{Report}
 use Rattle.lpt_verify.specs.Reading.{is_failure, is_success}
 use Rattle.lpt_verify.specs.Reports.{asks, failure, success, success_if}
 use Rattle.lpt_verify.proofs.ReadingLemmas.{IsReport-read}
-use Rattle.lpt_failures.specs.declared.notice.FailureNotice.{FailureNotice}
-use Rattle.lpt_failures.specs.Failures.{notice_of}
-use Rattle.lpt_failures.specs.declared.reading.RequestReport.{RequestReport}
-use Rattle.lpt_failures.proofs.FailureLemmas.{own-read}
+use Rattle.lpt_requests.specs.declared.notice.FailureNotice.{FailureNotice}
+use Rattle.lpt_requests.specs.Failures.{notice_of}
+use Rattle.lpt_requests.specs.declared.reading_failures.RequestReport.{RequestReport}
+use Rattle.lpt_requests.proofs.FailureLemmas.{own-read}
 use Rattle.lpt_outcomes.specs.declared.asked.Asked.{Asked}
 use Rattle.lpt_outcomes.specs.declared.news.ReportNews.{ReportNews}
 use Rattle.lpt_outcomes.specs.declared.outcome.Outcome.{Outcome}

@@ -3,7 +3,7 @@ use Rattle.std.specs.Prelude.{ℕ, ◌&&◌, ◌||◌, ◌<◌, not, is_some, Bo
 use Rattle.std.specs.List.{filter_map}
 use Rattle.std.specs.Option.{option_map}
 use Rattle.lpt_verify.specs.declared.report.EncodedReport.{EncodedReport}
-use Rattle.lpt_failures.specs.Failures.{any_report_in}
+use Rattle.lpt_requests.specs.Failures.{any_report_in}
 use Rattle.lpt_verify.specs.Reports.{all_reports, asks}
 use Rattle.lpt_outcomes.specs.declared.asked.Asked.{Asked}
 use Rattle.lpt_outcomes.specs.declared.news.ReportNews.{ReportNews}

@@ -3,8 +3,8 @@ use Rattle.std.specs.Prelude.{ℕ, ◌==◌, ◌||◌, not, nat_lt, is_some, Boo
 use Rattle.std.specs.List.{flat_map}
 use Rattle.hex.specs.Hex.{encode_lower}
 use Rattle.lpt_packet.specs.Numbers.{be}
-use Rattle.lpt_failures.specs.declared.notice.FailureNotice.{FailureNotice}
-use Rattle.lpt_failures.specs.declared.notice.FailureNotice.TheVariants.{Code, Foreign, Unread}
+use Rattle.lpt_requests.specs.declared.notice.FailureNotice.{FailureNotice}
+use Rattle.lpt_requests.specs.declared.notice.FailureNotice.TheVariants.{Code, Foreign, Unread}
 use Rattle.lpt_list.specs.declared.form.Form.{Form}
 use Rattle.lpt_list.specs.declared.form.Form.TheVariants.{Text, Json}
 use Rattle.lpt_list.specs.Items.{Item, Number, Alone, areas_said, items_text}

@@ -8,9 +8,9 @@ use Rattle.lpt_pus.specs.declared.fault.PusFault.{PusFault}
 use Rattle.lpt_layout.specs.declared.layout.Layout.{Layout}
 use Rattle.lpt_layout.specs.Messages.{Said, message_verdict}
 use Rattle.lpt_layout.specs.Packets.{verdict_as}
-use Rattle.lpt_failures.specs.declared.notice.FailureNotice.{FailureNotice}
-use Rattle.lpt_failures.specs.declared.reading.RequestReport.{RequestReport}
-use Rattle.lpt_failures.specs.Failures.{any_report_in}
+use Rattle.lpt_requests.specs.declared.notice.FailureNotice.{FailureNotice}
+use Rattle.lpt_requests.specs.declared.reading_failures.RequestReport.{RequestReport}
+use Rattle.lpt_requests.specs.Failures.{any_report_in}
 use Rattle.lpt_stream.specs.Pieces.{Piece}
 use Rattle.lpt_outcomes.specs.declared.asked.Asked.{Asked}
 use Rattle.lpt_outcomes.specs.declared.news.ReportNews.{ReportNews}

@@ -8,7 +8,7 @@ use Rattle.lpt_packet.specs.Packets.{Sight, IdlePacket, APacket}
 use Rattle.lpt_pus.specs.declared.fault.PusFault.{PusFault}
 use Rattle.lpt_memory.specs.Fields.{front_long}
 use Rattle.lpt_events.specs.Arrivals.{carried_kind}
-use Rattle.lpt_areas.specs.Areas.{areas_in}
+use Rattle.lpt_script_text.specs.Areas.{areas_in}
 use Rattle.lpt_layout.specs.declared.layout.Layout.{Layout}
 use Rattle.lpt_layout.specs.Messages.{Said, message_verdict}
 use Rattle.lpt_layout.specs.Packets.{verdict_as}

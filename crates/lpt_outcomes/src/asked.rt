@@ -5,8 +5,8 @@ ghost use Rattle.lpt_outcomes.specs.Done.{is_done, AreDone};
 
 use crate::key::Key;
 use crate::{Outcome, Passed};
-use lpt_areas::Areas;
 use lpt_pus::RequestId;
+use lpt_script_text::Areas;
 use std::collections::BTreeMap;
 
 /// A telecommand of a stream, and what reports have told of it.

@@ -30,11 +30,11 @@ mod writing;
 
 pub use answers::count_shared;
 pub use asked::{Asked, are_done};
-pub use lpt_areas::Areas;
 pub use lpt_carried::Layout;
-pub use lpt_failures::FailureNotice;
 pub use lpt_list::Form;
 pub use lpt_pus::RequestId;
+pub use lpt_requests::FailureNotice;
+pub use lpt_script_text::Areas;
 pub use lpt_text::{Sink, Source, StreamFault};
 pub use opened::write_open;
 pub use outcome::Outcome;

@@ -1,7 +1,7 @@
 //! What a report tells.
 
 use crate::key::Key;
-use lpt_failures::RequestReport;
+use lpt_requests::RequestReport;
 
 /// A verification report: its destination, its message subtype, and what its body says.
 #[derive(Clone, Copy)]

@@ -1,7 +1,7 @@
 //! What verification reports have told of a request.
 
 use crate::news::ReportNews;
-use lpt_failures::FailureNotice;
+use lpt_requests::FailureNotice;
 
 /// What verification reports have told of a request.
 #[derive(Clone, Copy)]

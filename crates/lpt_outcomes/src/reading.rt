@@ -15,13 +15,13 @@ ghost use Rattle.lpt_outcomes.specs.Reports.{news_by, news_in, news_of_body};
 use crate::news::ReportNews;
 use crate::passed::Beside;
 use crate::{Asked, Layout, Outcome};
-use lpt_areas::read_areas;
 use lpt_events::part_kind;
-use lpt_failures::read_any_report;
 use lpt_layout::{Message, PacketAs, SeenAs, read_sealed_as, read_tc_as, read_tm_as};
 use lpt_memory::fields;
 use lpt_packet::Direction;
 use lpt_pus::RequestId;
+use lpt_requests::read_any_report;
+use lpt_script_text::read_areas;
 use lpt_stream::{Cut, PieceKind};
 
 /// The service type of request verification (ECSS-E-ST-70-41C).

@@ -6,18 +6,16 @@ ghost use Rattle.lpt_part.specs.Splitting.{IsPartSize};
 
 use crate::decoding::part_body;
 use crate::layouts::{PART_FIELDS, kind_of, tell_front, tell_own_front};
-use lpt_carried::Layouts;
+use lpt_carried::{Layouts, fitting_size};
 use lpt_command_line::ListWords;
 use lpt_events::Config;
 use lpt_io::{
-    Failure, Machine, Packets, Status, Voice, finish, first_failure, opened_packets, output,
-    own_or_read, packets_end, tell_text,
+    Failure, Keeping, Machine, Packets, Status, Voice, finish, first_failure, opened_packets,
+    output, own_or_read, packets_end, tell_text,
 };
 use lpt_list::{Form, ListEnd, Listed, Tally, list_stream};
 use lpt_packet::{ERROR_CONTROL, PRIMARY_HEADER, Seen, read_packet};
 use lpt_part::{Kind, read_part};
-use lpt_skips::fitting_size;
-use lpt_sources::Keeping;
 use lpt_stream::whole_length;
 use lpt_text::StreamFault;
 

@@ -45,8 +45,8 @@ use Rattle.lpt_apart.proofs.Moving.{apart, ends_apart_keep_the_promise}
 use Rattle.lpt_apart.proofs.Queues.{executed_told}
 use Rattle.lpt_apart.proofs.Telling.{leaving_told}
 use Rattle.lpt_apart.proofs.Ties.{IsLonger, longer}
-use Rattle.lpt_reported.specs.Reported.{IsTelemetryDown, WasOpened}
-use Rattle.lpt_reported.proofs.CarriedLemmas.{opened_dump_is_memory}
+use Rattle.lpt_passes.specs.Reported.{IsTelemetryDown, WasOpened}
+use Rattle.lpt_passes.proofs.CarriedLemmas.{opened_dump_is_memory}
 use Rattle.lpt_passes.proofs.AskedLemmas.{awaited_opened}
 use Rattle.lpt_passes.proofs.GrowthLemmas.{Grows, move_grows}
 use Rattle.lpt_passes.proofs.PassLemmas.{of_journal}

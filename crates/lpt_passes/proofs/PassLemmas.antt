@@ -24,11 +24,11 @@ use Rattle.lpt_apart.specs.Steps.{IsOnTheWay}
 use Rattle.lpt_apart.proofs.Links.{held_at}
 use Rattle.lpt_apart.proofs.Moving.{apart, ends_apart_keep_the_promise}
 use Rattle.lpt_apart.proofs.Queues.{executed_told}
-use Rattle.lpt_reported.specs.Alone.{IsNamed}
-use Rattle.lpt_reported.specs.Images.{Stands}
-use Rattle.lpt_reported.specs.Reported.{WasDumped}
-use Rattle.lpt_reported.proofs.CarriedLemmas.{completed_was_executed, dumped_is_memory}
-use Rattle.lpt_reported.proofs.ImageLemmas.{pass_leaves_the_image, sizes_left}
+use Rattle.lpt_passes.specs.Alone.{IsNamed}
+use Rattle.lpt_passes.specs.Images.{Stands}
+use Rattle.lpt_passes.specs.Reported.{WasDumped}
+use Rattle.lpt_passes.proofs.CarriedLemmas.{completed_was_executed, dumped_is_memory}
+use Rattle.lpt_passes.proofs.ImageLemmas.{pass_leaves_the_image, sizes_left}
 use Rattle.lpt_passes.specs.Asked.{IsOfGroundIn}
 use Rattle.lpt_passes.proofs.AskedLemmas.{executed_was_asked}
 use Rattle.lpt_passes.proofs.GrowthLemmas.{moves_grow, could_move}

@@ -1,2 +1,10 @@
+pub mod Alone
+pub mod AloneJobs
+pub mod Areas
 pub mod Asked
+pub mod Chains
+pub mod Images
 pub mod Passes
+pub mod Places
+pub mod Reported
+pub mod Worked

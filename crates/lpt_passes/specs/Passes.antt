@@ -15,9 +15,9 @@ use Rattle.lpt_journal.specs.Jobs.{left_by}
 use Rattle.lpt_apart.specs.Facts.{Log, Opened, Asked, Released, requests_executed}
 use Rattle.lpt_apart.specs.Moves.{Pair, Move, Do, came_to, CanMoveAll}
 use Rattle.lpt_apart.specs.Steps.{Open, IsOnTheWay}
-use Rattle.lpt_reported.specs.Alone.{IsNamed}
-use Rattle.lpt_reported.specs.Images.{Image, AreTrueTo, IsLoaded, Stands}
-use Rattle.lpt_reported.specs.Reported.{IsTelemetryDown, IsVerification}
+use Rattle.lpt_passes.specs.Alone.{IsNamed}
+use Rattle.lpt_passes.specs.Images.{Image, AreTrueTo, IsLoaded, Stands}
+use Rattle.lpt_passes.specs.Reported.{IsTelemetryDown, IsVerification}
 
 -- ---- reports
 

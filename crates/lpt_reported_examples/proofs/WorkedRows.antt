@@ -19,7 +19,7 @@ use Rattle.lpt_journal.specs.Link.{sent}
 use Rattle.lpt_journal_examples.proofs.LegalRows.{usual_pass}
 use Rattle.lpt_journal_examples.proofs.Listed.{recorded_is}
 use Rattle.lpt_journal_examples.specs.Passes.{IsPass, pass_history, usual, usual_memories}
-use Rattle.lpt_reported.specs.Images.{Agrees, IsLoaded, IsTrueTo, LoadsOctet, Stands}
+use Rattle.lpt_passes.specs.Images.{Agrees, IsLoaded, IsTrueTo, LoadsOctet, Stands}
 use Rattle.lpt_reported_examples.specs.Worked.{first_load, image, next_load, load_twice, AreItsLoads, IsReported}
 
 -- none of its events is refused

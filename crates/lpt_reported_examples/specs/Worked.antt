@@ -11,8 +11,8 @@ use Rattle.lpt_events.specs.declared.worker.Worker.TheVariants.{W1}
 use Rattle.lpt_journal.specs.Journal.{SentPacket}
 use Rattle.lpt_journal.specs.Link.{sent}
 use Rattle.lpt_journal_examples.specs.Passes.{pass_history, usual, usual_memories, load}
-use Rattle.lpt_reported.specs.Images.{Image, AreTrueTo, IsLoaded}
-use Rattle.lpt_reported.specs.Reported.{IsVerification}
+use Rattle.lpt_passes.specs.Images.{Image, AreTrueTo, IsLoaded}
+use Rattle.lpt_passes.specs.Reported.{IsVerification}
 
 -- eight octets of memory 1
 abbrev pub image : Image

@@ -3,7 +3,7 @@
 ghost use Rattle.std.specs.Prelude.{◌≡◌, ◌∷◌, [], map};
 ghost use Rattle.lpt_journal.specs.Jobs.{executed, memories};
 ghost use Rattle.lpt_journal_examples.specs.Passes.{pass_history, usual, usual_memories, IsPass};
-ghost use Rattle.lpt_reported.specs.Images.{Stands};
+ghost use Rattle.lpt_passes.specs.Images.{Stands};
 ghost use Rattle.lpt_reported_examples.specs.Worked.{first_load, image, next_load, load_twice, AreItsLoads, IsReported};
 
 /// Ground asks for two loads of one image. The first is executed, and its report is lost. The

@@ -1,3 +1,4 @@
 mod CutLemmas
 mod ExecutedLemmas
+pub mod FailureLemmas
 mod RangeLemmas

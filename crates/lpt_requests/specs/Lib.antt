@@ -1,3 +1,4 @@
 pub mod Cuts
+pub mod Failures
 pub mod Packets
 pub mod Requests

@@ -1,3 +1,4 @@
+pub mod Areas
 pub mod Decoding
 pub mod Naming
 pub mod Printing

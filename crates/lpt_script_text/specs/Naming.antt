@@ -10,8 +10,8 @@ use Rattle.lpt_packet.specs.Packets.{Fields, Sight, IdlePacket, APacket, verdict
 use Rattle.lpt_pus.specs.declared.fault.PusFault.{PusFault}
 use Rattle.lpt_pus.specs.Commands.{Command, tc_verdict}
 use Rattle.lpt_pus.specs.Telemetry.{Telemetry, tm_verdict}
-use Rattle.lpt_areas.specs.declared.areas.Areas.{Areas}
-use Rattle.lpt_areas.specs.Areas.{areas_in}
+use Rattle.lpt_script_text.specs.declared.areas.Areas.{Areas}
+use Rattle.lpt_script_text.specs.Areas.{areas_in}
 use Rattle.lpt_script_text.specs.Printing.{line_of}
 
 -- the areas that a message of the memory service names: how many, and the first of them

@@ -4,7 +4,7 @@ ghost use Rattle.std.specs.Prelude.{◌≡◌, IfOk};
 ghost use Rattle.std.specs.String.{string_bytes};
 ghost use Rattle.lpt_script_text.specs.Naming.{areas_line, areas_named, areas_text};
 
-use lpt_areas::{Areas, read_areas};
+use crate::{Areas, read_areas};
 use lpt_packet::{Direction, PacketKind, Seen, read_packet};
 use lpt_pus::{read_tc, read_tm};
 use std::alloc::{AllocError, Global};

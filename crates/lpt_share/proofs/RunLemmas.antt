@@ -1,15 +1,15 @@
 -- When a run is whole, and what follows.
 use Rattle.std.proofs.Common.{◌≡◌, ◌≢◌, ◌↔◌, sym, subst, ℕ, Bool, true, List, length, Result, Ok, Err, IfOk, IfErr, IsTrue}
-use Rattle.lpt_share_audit.specs.Agreeing.{Agree}
-use Rattle.lpt_share_audit.specs.Finished.{IsFinished, owed_of}
-use Rattle.lpt_share_audit.specs.Kinds.{are_of_seats}
+use Rattle.lpt_share.specs.Agreeing.{Agree}
+use Rattle.lpt_share.specs.Finished.{IsFinished, owed_of}
+use Rattle.lpt_share.specs.Kinds.{are_of_seats}
 use Rattle.lpt_events.specs.declared.log.SeatLog.{SeatLog}
 use Rattle.lpt_events.specs.declared.turns.Turns.{Turns}
 use Rattle.lpt_world.specs.Worlds.{Shown}
-use Rattle.lpt_share_audit.specs.Runs.{IsInOrder}
-use Rattle.lpt_share_audit.specs.Settled.{IsSettled}
-use Rattle.lpt_share_audit.specs.declared.owed.Owed.{Owed}
-use Rattle.lpt_share_audit.proofs.SettledLemmas.{finished}
+use Rattle.lpt_share.specs.Runs.{IsInOrder}
+use Rattle.lpt_share.specs.Settled.{IsSettled}
+use Rattle.lpt_share.specs.declared.owed.Owed.{Owed}
+use Rattle.lpt_share.proofs.SettledLemmas.{finished}
 use Rattle.lpt_share.specs.WholeRuns.{IsWholeRun}
 use Rattle.lpt_share.specs.declared.fault.ShareFault.{ShareFault}
 use Rattle.lpt_share.specs.declared.fault.ShareFault.TheVariants.{Torn}

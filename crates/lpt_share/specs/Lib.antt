@@ -1,8 +1,15 @@
+pub mod Agreeing
 pub mod Calls
 pub mod Doing
 pub mod Entering
 pub mod FaultNames
+pub mod Finished
+pub mod FinishedInside
+pub mod Kinds
 pub mod Origins
+pub mod Runs
 pub mod Seats
+pub mod Settled
+pub mod Turn
 pub mod Turns
 pub mod WholeRuns

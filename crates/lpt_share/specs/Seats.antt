@@ -1,7 +1,7 @@
 -- What each seat of a run does, whom it tells, and of what.
 use Rattle.std.specs.Prelude.{◌≡◌, ◌==◌, ◌&&◌, ◌||◌, ◌+◌, ℕ, Bool, true, false, not, if◌then◌else◌, List, [], ◌∷◌, is_some, ⊤}
 use Rattle.std.specs.List.Sorted.{IsPermutation, IsSorted}
-use Rattle.lpt_share_audit.specs.Kinds.{lane_seat, timer_seat, worker_seat, sender_seat}
+use Rattle.lpt_share.specs.Kinds.{lane_seat, timer_seat, worker_seat, sender_seat}
 use Rattle.lpt_events.specs.Lanes.{same_direction}
 use Rattle.lpt_events.specs.declared.entry.Opening.{Opening}
 use Rattle.lpt_events.specs.declared.outcome.Outcome.{Outcome}

@@ -1,14 +1,14 @@
 -- When a run of threads is whole.
 use Rattle.std.specs.Prelude.{◌≡◌, ℕ, List, length, true}
-use Rattle.lpt_share_audit.specs.Agreeing.{Agree}
-use Rattle.lpt_share_audit.specs.Finished.{IsFinished}
-use Rattle.lpt_share_audit.specs.Kinds.{are_of_seats}
+use Rattle.lpt_share.specs.Agreeing.{Agree}
+use Rattle.lpt_share.specs.Finished.{IsFinished}
+use Rattle.lpt_share.specs.Kinds.{are_of_seats}
 use Rattle.lpt_events.specs.declared.log.SeatLog.{SeatLog}
 use Rattle.lpt_events.specs.declared.turns.Turns.{Turns}
 use Rattle.lpt_world.specs.Worlds.{Promised, Shown}
-use Rattle.lpt_share_audit.specs.Runs.{IsInOrder}
-use Rattle.lpt_share_audit.specs.Settled.{IsSettled}
-use Rattle.lpt_share_audit.specs.declared.owed.Owed.{Owed}
+use Rattle.lpt_share.specs.Runs.{IsInOrder}
+use Rattle.lpt_share.specs.Settled.{IsSettled}
+use Rattle.lpt_share.specs.declared.owed.Owed.{Owed}
 use Rattle.lpt_share.specs.Entering.{IsLegal}
 use Rattle.lpt_share.specs.Origins.{Continues}
 

@@ -1,14 +1,13 @@
 //! What is found when the threads of a run have ended.
 
 ghost use Rattle.std.specs.Prelude.{◌≡◌, ◌≢◌, ◌↔◌, Some, None, true, IfOk, IfErr, IfSome, IsTrue};
-ghost use Rattle.lpt_share_audit.specs.Agreeing.{Agree};
-ghost use Rattle.lpt_share_audit.specs.Kinds.{are_of_seats};
-ghost use Rattle.lpt_share_audit.specs.Runs.{IsInOrder};
+ghost use Rattle.lpt_share.specs.Agreeing.{Agree};
+ghost use Rattle.lpt_share.specs.Kinds.{are_of_seats};
+ghost use Rattle.lpt_share.specs.Runs.{IsInOrder};
 ghost use Rattle.lpt_share.specs.WholeRuns.{IsWholeRun};
 
-use crate::ShareFault;
+use crate::{Owed, ShareFault, agrees, are_in_order, are_of_seats, is_settled};
 use lpt_events::{SeatLog, Turns};
-use lpt_share_audit::{Owed, agrees, are_in_order, are_of_seats, is_settled};
 use lpt_world::World;
 use std::alloc::{AllocError, Global};
 

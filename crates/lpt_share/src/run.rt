@@ -1,11 +1,11 @@
 //! The run of ten seats round one world, each in a thread of its own.
 
 ghost use Rattle.std.specs.Prelude.{◌≡◌, ◌≢◌, Some, true, length, IfOk, IfErr, IfSome};
-ghost use Rattle.lpt_share_audit.specs.Agreeing.{Agree};
-ghost use Rattle.lpt_share_audit.specs.Finished.{IsFinished, owed_of};
-ghost use Rattle.lpt_share_audit.specs.Kinds.{are_of_seats};
+ghost use Rattle.lpt_share.specs.Agreeing.{Agree};
+ghost use Rattle.lpt_share.specs.Finished.{IsFinished, owed_of};
+ghost use Rattle.lpt_share.specs.Kinds.{are_of_seats};
 ghost use Rattle.lpt_world.specs.Worlds.{Promised};
-ghost use Rattle.lpt_share_audit.specs.Runs.{IsInOrder};
+ghost use Rattle.lpt_share.specs.Runs.{IsInOrder};
 ghost use Rattle.lpt_share.specs.Entering.{IsLegal};
 ghost use Rattle.lpt_share.specs.Origins.{Continues};
 ghost use Rattle.lpt_share.specs.WholeRuns.{IsWholeRun};
@@ -15,9 +15,8 @@ use crate::held::Origin;
 use crate::judging::{Ran, run_judged};
 use crate::seats::{Ended, Pass};
 use crate::task::Seat;
-use crate::{Gate, ShareFault, Shared};
+use crate::{Gate, Owed, ShareFault, Shared, open_transactions};
 use lpt_events::{SeatLog, Turns};
-use lpt_share_audit::{Owed, open_transactions};
 use lpt_world::World;
 use std::alloc::{AllocError, Global};
 use std::marker::Brand;

@@ -3,8 +3,7 @@
 ghost use Rattle.std.specs.Prelude.{◌≡◌, IfOk, None, option_map};
 
 use lpt_command_line::SpacecraftWords;
-use lpt_end_machine::LastingFiles;
-use lpt_io::{Failure, Fault, Status, tell_end};
+use lpt_io::{Failure, Fault, LastingFiles, Status, tell_end};
 use lpt_spacecraft::{KeepFault, KeptFiles, Spacecraft, WholeFile, save_one};
 
 /// A file of the machine, which is written whole, or not at all, and forced to the disk.

@@ -14,8 +14,7 @@ mod ticker;
 mod wires;
 
 pub use lpt_command_line::{SettingWords, SpacecraftWords};
-pub use lpt_end_machine::{EndMachine, PlainMachine};
-pub use lpt_io::{Failure, Status};
+pub use lpt_io::{EndMachine, Failure, PlainMachine, Status};
 pub use pipes::{PipeReader, PipeWriter, Unread, pipe, short_pipe};
 pub use serving::{Begun, begun_craft, serve, spacecraft};
 pub use wires::Wires;

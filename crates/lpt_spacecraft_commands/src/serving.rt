@@ -8,11 +8,11 @@ use crate::keeping::save_all;
 use crate::memories::{check_memories, memories_of};
 use crate::wires::{Wires, serve_kept};
 use lpt_command_line::{SettingWords, SpacecraftWords};
-use lpt_end_machine::{
-    EndMachine, PlainMachine, UsedFile, add_craft_files, add_settings_file, locked_file, used_twice,
-};
 use lpt_events::Config;
-use lpt_io::{Failure, Fault, Machine, Status, octets_from, open_input, settings_of, word_refused};
+use lpt_io::{
+    EndMachine, Failure, Fault, Machine, PlainMachine, Status, UsedFile, add_craft_files,
+    add_settings_file, locked_file, octets_from, open_input, settings_of, used_twice, word_refused,
+};
 use lpt_memory::Memories;
 use lpt_spacecraft::Spacecraft;
 use std::alloc::{AllocError, Global};

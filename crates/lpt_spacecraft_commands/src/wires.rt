@@ -9,10 +9,9 @@ use crate::logging::{Log, Silent};
 use crate::pipes::{PipeReader, PipeWriter};
 use crate::ticker::{Stopped, Ticker};
 use lpt_command_line::{SpacecraftWords, longest_on_link};
-use lpt_end_machine::PlainMachine;
 use lpt_io::{
-    Failure, Fault, STANDARD, Status, Watched, finish, first_failure, output, read_failure,
-    tell_place,
+    Failure, Fault, PlainMachine, STANDARD, Status, Watched, finish, first_failure, output,
+    read_failure, tell_place,
 };
 use lpt_spacecraft::{Keeper, Pace, Passing, Spacecraft, Stop, serve_stream, serve_waiting};
 use lpt_text::{FromStd, StreamFault};

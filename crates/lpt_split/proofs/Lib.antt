@@ -1,2 +1,5 @@
+mod FrameLemmas
 mod ListLemmas
 mod PacketLemmas
+pub mod ShareLemmas
+pub mod StreamLemmas

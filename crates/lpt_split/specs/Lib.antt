@@ -1,5 +1,9 @@
 pub mod Forms
 pub mod Lists
 pub mod Messages
+pub mod MessagesEach
 pub mod Packets
+pub mod Shares
 pub mod Splits
+pub mod Streams
+pub mod StreamsInside

@@ -11,11 +11,15 @@ pub mod FrontLemmas
 pub mod KeptLemmas
 pub mod KnownLemmas
 pub mod LengthLemmas
+pub mod MarkLemmas
 pub mod PieceLemmas
 pub mod ReachLemmas
+pub mod RegisterLemmas
 pub mod ResumeLemmas
 pub mod RunLemmas
 pub mod SealLemmas
+pub mod SearchLemmas
 pub mod StrayLemmas
 pub mod StreamLemmas
+pub mod SumLemmas
 pub mod TakeLemmas

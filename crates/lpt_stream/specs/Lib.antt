@@ -1,8 +1,11 @@
 pub mod Buffers
 pub mod Fronts
 pub mod Lengths
+pub mod Marked
 pub mod Pieces
 pub mod Reads
+pub mod Registers
+pub mod Searches
 pub mod Strays
 pub mod Streams
 pub mod Takes

@@ -1,14 +1,13 @@
 //! The pieces of a stream, packets and what is none, found as it comes.
 
 ghost use Rattle.std.specs.Prelude.{◌≤◌, drop, length, take};
-ghost use Rattle.lpt_search.specs.Searches.{Knows};
+ghost use Rattle.lpt_stream.specs.Searches.{Knows};
 ghost use Rattle.lpt_stream.specs.Pieces.{most_kept};
 
 use crate::cutting::whole_length;
 use crate::found::{Found, length_announced, other_in_front, packet_unless};
 use crate::waiting::waits;
-use crate::{Cut, Peer, PieceKind};
-use lpt_search::Search;
+use crate::{Cut, Peer, PieceKind, Search};
 use lpt_text::{Sink, StreamFault, flush_out};
 use std::alloc::{AllocError, Global};
 

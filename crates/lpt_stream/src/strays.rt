@@ -2,15 +2,14 @@
 
 ghost use Rattle.std.specs.Prelude.{◌≡◌, ◌≤◌, length, drop, min, take, true, false};
 ghost use Rattle.lpt_packet.specs.Sizes.{longest_packet};
-ghost use Rattle.lpt_search.specs.Marked.{Marked};
+ghost use Rattle.lpt_stream.specs.Marked.{Marked};
 ghost use Rattle.lpt_stream.specs.Pieces.{begins, lookahead};
 ghost use Rattle.lpt_stream.specs.Strays.{is_octet_of_none, is_stray, strays_in};
 
-use crate::PieceKind;
 use crate::found::length_announced;
 use crate::front::{LOOKAHEAD, piece_unless};
+use crate::{Marks, PieceKind};
 use lpt_packet::LONGEST_PACKET;
-use lpt_search::Marks;
 
 /// How many octets at the front are none of a packet, out of step: so many times, one behind the
 /// other, `piece_in_front` finds one stray octet. At most 65,542.

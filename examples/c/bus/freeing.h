@@ -22,7 +22,7 @@
  *
  * It is proved that two nodes which follow these three steps, whatever the link does and whenever
  * they are killed, free names in the order of docs/C.md, and keep the promise:
- * lines_free_through_resets, in crates/lpt_freeing.
+ * lines_free_through_resets, in crates/lpt_apart.
  */
 #ifndef BUS_FREEING_H
 #define BUS_FREEING_H

@@ -1,5 +1,5 @@
 use Rattle.std.proofs.Common.{ap}
-use Rattle.lpt_freeing.specs.Freeing.{Talk}
+use Rattle.lpt_apart.specs.Freeing.{Talk}
 use Rattle.lpt_apart_examples.proofs.Repeating.{frees_too_early, late_lines_change_nothing}
 use Rattle.lpt_apart_examples.proofs.laws.late_lines_change_nothing.Goals as goal
 

@@ -1,7 +1,7 @@
 -- It ends as `carry_large` does.
 use Rattle.std.proofs.Common.{None}
 use Rattle.lpt_ground.specs.Passes.{state_of}
-use Rattle.lpt_ground_large.specs.Uplinks.{way_of}
+use Rattle.lpt_ground.specs.Uplinks.{way_of}
 use Rattle.lpt_ground_run.specs.Carried.{CameUp}
 use Rattle.lpt_ground_run.proofs.CarriedLemmas.{by-end, came-up}
 use Rattle.lpt_ground_run.proofs.carrying.carry_uplink.Goals as goal

@@ -1,7 +1,7 @@
 -- What goes up is the request, and what stands in its headers is the pass's.
 use Rattle.std.proofs.Common.{◌∙◌, ap, sym, subst, List, ℕ, ◌<◌, length}
-use Rattle.lpt_ground_large.specs.declared.large.Large.{Large}
-use Rattle.lpt_ground_large.specs.Uplinks.{way_at_first}
+use Rattle.lpt_ground.specs.declared.large.Large.{Large}
+use Rattle.lpt_ground.specs.Uplinks.{way_at_first}
 use Rattle.lpt_ground_run.proofs.uplinks.plan_uplink.Goals as goal
 
 pub returns : goal.returns

@@ -1,8 +1,8 @@
 -- The stream is at its end, and what is left was told; or a fault ended it.
 use Rattle.std.proofs.Common.{◌≡◌, ap, inl, inr, refl, subst, Bool, Err}
 use Rattle.std.proofs.lemmas.Result.{err_from_is_err_and}
-use Rattle.lpt_skips.specs.declared.wanted.Wanted.{Wanted}
-use Rattle.lpt_skips.specs.Tallies.{skips_of}
+use Rattle.lpt_carried.specs.declared.wanted.Wanted.{Wanted}
+use Rattle.lpt_carried.specs.Tallies.{skips_of}
 use Rattle.lpt_text.specs.declared.fault.StreamFault.TheVariants as faults
 use Rattle.lpt_stream.specs.Pieces.{packets_of}
 use Rattle.lpt_stream.proofs.EndLemmas.{any-err, other-fault, reader-kept}

@@ -1,5 +1,5 @@
 use Rattle.std.proofs.Common.{◌≡◌, ◌≤◌, ◌+◌, ◌-◌, drop}
-use Rattle.lpt_search.specs.Marked.{Marked}
+use Rattle.lpt_stream.specs.Marked.{Marked}
 use Rattle.lpt_stream.specs.Strays.{strays_in}
 use Rattle.lpt_stream.proofs.strays.strays_in_front.Given as goal
 

@@ -1,6 +1,6 @@
 -- A piece more of a stream that begins at 0.
 use Rattle.std.proofs.Common.{◌≡◌, ◌∙◌, ap, sym, subst, ℕ, ◌+◌, ◌∷◌, ◌++◌, [], arith}
-use Rattle.lpt_skips.specs.declared.wanted.Wanted.{Wanted}
+use Rattle.lpt_carried.specs.declared.wanted.Wanted.{Wanted}
 use Rattle.lpt_stream.specs.Pieces.{octets_in, up_to_limit}
 use Rattle.lpt_layout_join.specs.Readers.{Gathers}
 use Rattle.lpt_layout_join.proofs.several.GathererTakerNowhereFindings.take.Goals as goal

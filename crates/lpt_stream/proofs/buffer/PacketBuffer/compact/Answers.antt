@@ -1,6 +1,6 @@
 -- What was moved to the front is what was held.
 use Rattle.std.proofs.Common.{◌∙◌, ◌-◌, ap, sym, subst, take, List, ℕ}
-use Rattle.lpt_search.specs.Searches.{Knows}
+use Rattle.lpt_stream.specs.Searches.{Knows}
 use Rattle.lpt_stream.proofs.BufferLemmas.{moved}
 use Rattle.lpt_stream.proofs.buffer.PacketBuffer.compact.Goals as goal
 

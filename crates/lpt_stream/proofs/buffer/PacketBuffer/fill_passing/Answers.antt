@@ -1,8 +1,8 @@
 -- What was read stands behind what was held, of a source that waits as well.
 use Rattle.std.proofs.Common.{◌≡◌, ◌∙◌, ◌<◌, ◌≤◌, ◌+◌, ◌++◌, List, ℕ, ap, sym, subst, length, take, arith, length-drop}
 use Rattle.std.proofs.lemmas.List.{length-take, length-take-le}
-use Rattle.lpt_search.specs.Searches.{Knows}
-use Rattle.lpt_search.proofs.SearchLemmas.{knows-more}
+use Rattle.lpt_stream.specs.Searches.{Knows}
+use Rattle.lpt_stream.proofs.SearchLemmas.{knows-more}
 use Rattle.lpt_stream.specs.Buffers.{octets_held}
 use Rattle.lpt_stream.specs.Pieces.{most_kept}
 use Rattle.lpt_stream.proofs.BufferLemmas.{filled, more_given}

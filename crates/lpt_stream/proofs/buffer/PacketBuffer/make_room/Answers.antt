@@ -1,7 +1,7 @@
 -- What there is room for changes nothing of what is held.
 use Rattle.std.proofs.Common.{◌+◌, ◌-◌, subst, arith}
 use Rattle.std.specs.Prelude.{is_ok, replicate}
-use Rattle.lpt_search.specs.Searches.{Knows}
+use Rattle.lpt_stream.specs.Searches.{Knows}
 use Rattle.lpt_stream.proofs.KnownLemmas.{resized}
 use Rattle.lpt_stream.proofs.buffer.PacketBuffer.make_room.Goals as goal
 

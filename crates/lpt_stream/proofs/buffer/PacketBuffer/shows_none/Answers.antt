@@ -1,6 +1,6 @@
 -- What is known of the octets that are held shows an octet astray.
 use Rattle.std.proofs.Common.{◌-◌, sym, subst, take, drop}
-use Rattle.lpt_search.specs.Searches.{Knows}
+use Rattle.lpt_stream.specs.Searches.{Knows}
 use Rattle.lpt_stream.proofs.AstrayLemmas.{astray_shown}
 use Rattle.lpt_stream.proofs.KnownLemmas.{sliced}
 use Rattle.lpt_stream.proofs.buffer.PacketBuffer.shows_none.Goals as goal

@@ -1,7 +1,7 @@
 -- What is known of octets that are passed over is known of those behind them.
 use Rattle.std.proofs.Common.{subst, take}
 use Rattle.std.proofs.lemmas.List.{drop-drop}
-use Rattle.lpt_search.specs.Searches.{Knows}
+use Rattle.lpt_stream.specs.Searches.{Knows}
 use Rattle.lpt_stream.specs.Buffers.{octets_held}
 use Rattle.lpt_stream.proofs.buffer.PacketBuffer.skip.Goals as goal
 

@@ -1,0 +1,76 @@
+-- A worked run of two ends apart, with no handles: each is written, and the spacecraft's is read
+-- back, and then reset.
+use Rattle.std.specs.Prelude.{◌≡◌, List, [], ◌∷◌}
+use Rattle.lpt_acts.specs.Acts.{Execute}
+use Rattle.lpt_apart.specs.Clocks.{after_all, no_pair_later}
+use Rattle.lpt_apart.specs.Moves.{Do, Move, Pair}
+use Rattle.lpt_apart.specs.Steps.{Accept, Apply, Claim, Commit, Plain}
+use Rattle.lpt_apart.specs.Deeds as kept
+use Rattle.lpt_apart.specs.Deeds.{Kept, CanDoAll, with_restart}
+use Rattle.lpt_apart.specs.Resets as reset
+use Rattle.lpt_apart.specs.Resets.{CanLiveAll, just_written, lived_all}
+use Rattle.lpt_c_pair.specs.Called.{called_log, usual_own}
+use Rattle.lpt_events.specs.declared.side.Side.TheVariants.{Ground, Craft}
+use Rattle.lpt_events.specs.declared.worker.Worker.TheVariants.{W1}
+use Rattle.lpt_journal_examples.specs.Passes.{load, load_packet, loaded_memories, usual, usual_memories}
+use Rattle.lpt_packet.specs.declared.direction.Direction.TheVariants.{Up}
+
+-- two new ends, of which nothing was written
+abbrev pub new_pair : Pair
+new_pair = no_pair_later usual usual_memories 0 usual_own
+
+abbrev pub unwritten : Kept
+unwritten = record {
+  pair = new_pair;
+  ground_octets = [];
+  craft_octets = [];
+  memories = usual_memories;
+}
+
+-- ground asks for a load; the spacecraft takes its packet, reads it and executes it; the newest
+-- stands first
+abbrev pub moves : List Move
+moves =
+    Do (Apply Execute)
+    ∷ Do (Commit W1)
+    ∷ Do (Claim W1)
+    ∷ Do (Accept Up load_packet)
+    ∷ Do (Plain 1 0 6 2 load)
+    ∷ []
+
+-- the same, after which the spacecraft's end is written and read back
+abbrev pub deeds : List kept.Deed
+deeds =
+    kept.ReadBack Craft usual
+    ∷ kept.Write Craft
+    ∷ kept.Make (Do (Apply Execute))
+    ∷ kept.Make (Do (Commit W1))
+    ∷ kept.Make (Do (Claim W1))
+    ∷ kept.Make (Do (Accept Up load_packet))
+    ∷ kept.Make (Do (Plain 1 0 6 2 load))
+    ∷ []
+
+-- the same, but that both are written in time, and the spacecraft's machine is reset when the
+-- packet has come once more: that is deleted
+abbrev pub lives : List reset.Deed
+lives =
+    reset.Reset Craft usual
+    ∷ reset.Make (Do (Accept Up load_packet))
+    ∷ reset.Write Craft
+    ∷ reset.Make (Do (Apply Execute))
+    ∷ reset.Make (Do (Commit W1))
+    ∷ reset.Make (Do (Claim W1))
+    ∷ reset.Make (Do (Accept Up load_packet))
+    ∷ reset.Write Ground
+    ∷ reset.Make (Do (Plain 1 0 6 2 load))
+    ∷ []
+
+-- both can be done; what is left of the second are the moves and a start; and what they come to
+pub record NodesCanBe : Type 0 where
+  pub read_back : CanDoAll usual unwritten deeds
+  pub reset : CanLiveAll usual new_pair (just_written usual unwritten) lives
+  pub left : (lived_all usual (just_written usual unwritten) lives).moves
+      ≡ with_restart usual Craft moves
+  pub log : (after_all usual new_pair (with_restart usual Craft moves)).ends.log ≡ called_log
+  pub memories : (after_all usual new_pair (with_restart usual Craft moves)).ends.memories
+      ≡ loaded_memories

@@ -1,9 +1,0 @@
-pub mod Calling
-pub mod Computed
-pub mod Leaving
-pub mod Making
-pub mod Noding
-pub mod Own
-pub mod Stages
-pub mod TakingBack
-pub mod Working

@@ -1,5 +1,0 @@
-use Rattle.lpt_c_pair_examples.proofs.Noding.{nodes_can_be}
-use Rattle.lpt_c_pair_examples.proofs.laws.nodes_can_be.Goals as goal
-
-pub returns : goal.returns
-returns f = nodes_can_be

@@ -1,5 +1,0 @@
-use Rattle.lpt_c_pair_examples.proofs.Working.{written_can_be_put_back}
-use Rattle.lpt_c_pair_examples.proofs.laws.written_can_be_put_back.Goals as goal
-
-pub returns : goal.returns
-returns f = written_can_be_put_back

@@ -1,5 +1,0 @@
-use Rattle.lpt_c_pair_examples.proofs.TakingBack.{written_can_be_taken_back}
-use Rattle.lpt_c_pair_examples.proofs.laws.written_can_be_taken_back.Goals as goal
-
-pub returns : goal.returns
-returns f = written_can_be_taken_back

@@ -1,5 +1,0 @@
-pub mod Called
-pub mod Leavings
-pub mod Nodes
-pub mod TakenBack
-pub mod Worked

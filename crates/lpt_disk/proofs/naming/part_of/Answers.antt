@@ -1,7 +1,0 @@
-use Rattle.std.specs.Prelude.{string_bytes}
-use Rattle.lpt_disk.proofs.PathLemmas.{part-beside-ok}
-use Rattle.lpt_disk.proofs.naming.part_of.Goals as goal
-
-pub returns-clause-beside : goal.returns-clause-beside
-returns-clause-beside c =
-    part-beside-ok string_bytes c.args.path.now _ c.format.ensures.ok

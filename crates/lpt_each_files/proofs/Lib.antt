@@ -1,5 +1,0 @@
-mod CountLemmas
-mod EndLemmas
-mod FileLemmas
-mod TakeLemmas
-mod WholeLemmas

@@ -1,3 +1,0 @@
-pub mod Freeing
-pub mod Lines
-pub mod Resets

@@ -1,6 +1,0 @@
--- The lemma says it, of what the image is proved to be.
-use Rattle.lpt_ground_jobs.proofs.AreaLemmas.{done-areas}
-use Rattle.lpt_ground_jobs.proofs.laws.done_leaves_the_areas.Goals as goal
-
-pub returns : goal.returns
-returns c = done-areas c.done_leaves_the_image.ensures

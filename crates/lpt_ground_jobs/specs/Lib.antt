@@ -1,4 +1,0 @@
-pub mod Alone
-pub mod Areas
-pub mod Places
-pub mod Worked

@@ -1,6 +1,0 @@
--- Both say the same of the part.
-use Rattle.lpt_ground_large.proofs.UplinkLemmas.{packets-are-the-nodes}
-use Rattle.lpt_ground_large.proofs.laws.packets_are_the_nodes.Goals as goal
-
-pub returns : goal.returns
-returns c = packets-are-the-nodes

@@ -1,0 +1,3 @@
+pub mod KeepingLemmas
+mod PathLemmas
+mod SpanLemmas

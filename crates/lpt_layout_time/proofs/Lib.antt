@@ -1,2 +1,0 @@
-mod DateLemmas
-mod StretchLemmas

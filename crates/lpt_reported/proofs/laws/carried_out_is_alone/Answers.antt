@@ -1,6 +1,0 @@
--- The lemma says it.
-use Rattle.lpt_reported.proofs.AloneLemmas.{carried_out_is_alone}
-use Rattle.lpt_reported.proofs.laws.carried_out_is_alone.Goals as goal
-
-pub returns : goal.returns
-returns c = carried_out_is_alone

@@ -1,6 +1,0 @@
--- The lemma says it.
-use Rattle.lpt_reported.proofs.CarriedLemmas.{failed_changed_nothing}
-use Rattle.lpt_reported.proofs.laws.failed_changed_nothing.Goals as goal
-
-pub returns : goal.returns
-returns c = failed_changed_nothing

@@ -1,6 +1,0 @@
--- The lemma says it.
-use Rattle.lpt_reported.proofs.ImageLemmas.{loads_leave_the_image}
-use Rattle.lpt_reported.proofs.laws.loads_leave_the_image.Goals as goal
-
-pub returns : goal.returns
-returns c = loads_leave_the_image

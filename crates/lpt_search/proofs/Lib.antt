@@ -1,4 +1,0 @@
-pub mod RegisterLemmas
-pub mod SumLemmas
-pub mod MarkLemmas
-pub mod SearchLemmas

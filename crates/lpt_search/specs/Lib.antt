@@ -1,3 +1,0 @@
-pub mod Registers
-pub mod Searches
-pub mod Marked

@@ -1,3 +1,0 @@
-pub mod FinishLemmas
-pub mod SettledLemmas
-mod TurnLemmas

@@ -1,2 +1,0 @@
-pub mod TallyLemmas
-mod ToldLemmas

@@ -1,2 +1,0 @@
-pub mod KeepingLemmas
-mod SpanLemmas

@@ -1,3 +1,0 @@
-mod FrameLemmas
-pub mod ShareLemmas
-pub mod StreamLemmas

@@ -1,4 +1,0 @@
-pub mod Messages
-pub mod Shares
-pub mod Streams
-pub mod StreamsInside
