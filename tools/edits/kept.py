@@ -55,9 +55,10 @@ def contents(folder: pathlib.Path, parts: list[str]) -> list[tuple[str, str]]:
 
 @functools.lru_cache(maxsize=None)
 def kit_sum() -> str:
-    """A sum of the kit, by the size and time of each of its files, and of what tries the edits."""
+    """A sum of the kit, by the size and time of each of its files, and of what tries the edits (not of its tests)."""
     states = [(str(it), it.lstat().st_size, it.lstat().st_mtime_ns) for it in files_of(KIT, OF_KIT)]
-    own = [(it.name, it.read_text(encoding="utf-8")) for it in [*sorted(HERE.glob("*.py")), HERE.parent / "crates.py"]]
+    trying = [it for it in sorted(HERE.glob("*.py")) if it.name != "tests.py"]
+    own = [(it.name, it.read_text(encoding="utf-8")) for it in [*trying, HERE.parent / "crates.py"]]
     return sum_of((states, own))
 
 

@@ -39,11 +39,11 @@ class Row:
 
 
 ROWS = [
-    Row("same_number", "checksum", "let mut register = 0xffff;", "let mut register = 65535;", LET_THROUGH),
-    Row("same_sum_in_a_copy", "checksum", "let mut register = 0xffff;", "let mut register = 65534 + 1;", LET_THROUGH),
-    Row("turned_in_a_copy", "checksum", "let mut register = 0xffff;", "let mut register = 0;", REFUSED),
-    Row("another_clause_named", "checksum", "let mut register = 0xffff;", "let mut register = 1;", NOTHING, "clause: reader"),
-    Row("its_clause_named", "checksum", "let mut register = 0xffff;", "let mut register = 2;", REFUSED, "clause: loop-eight"),
+    Row("same_number", "checksum", "crc16_more(0xffff, octets)", "crc16_more(65535, octets)", LET_THROUGH),
+    Row("same_sum_in_a_copy", "checksum", "crc16_more(0xffff, octets)", "crc16_more(65534 + 1, octets)", LET_THROUGH),
+    Row("turned_in_a_copy", "checksum", "crc16_more(0xffff, octets)", "crc16_more(0, octets)", REFUSED),
+    Row("another_clause_named", "checksum", "crc16_more(0xffff, octets)", "crc16_more(1, octets)", NOTHING, "clause: reader"),
+    Row("its_clause_named", "checksum", "let mut register = first;", "let mut register = 2;", REFUSED, "clause: loop-eight"),
     Row("its_type_broken", "packet", "apid > 2046", "apid > 2047", NOTHING),
     Row("its_type_named", "packet", "apid > 2046", "apid > 2048", REFUSED, "clause: invariant_of-result"),
     Row("callee_of_it_broken", "checksum", "(register % 256) as u8", "(register % 255) as u8", REFUSED),
