@@ -5,7 +5,7 @@ _lpt() {
     local command='' request='' offered='' i
     for ((i = 1; i < COMP_CWORD; i++)); do
         case $command:${COMP_WORDS[i]} in
-        :run | :threads | :lint | :decode | :list | :split | :join | :extract | :link | :spacecraft | :verify | :compare | :checksum | :ground | :pass | :request | :help)
+        :run | :threads | :decode | :list | :split | :join | :extract | :link | :spacecraft | :verify | :compare | :checksum | :ground | :pass | :request | :help)
             command=${COMP_WORDS[i]}
             ;;
         ground:load | ground:dump | ground:check | ground:patch | ground:help | \
@@ -18,7 +18,6 @@ _lpt() {
     done
     local options='--config --apid --source --part-size --help --version'
     case $command:$request in
-    lint:*) options='--help --version' ;;
     run:*) options+=' --views --mode' ;;
     threads:*) options+=' --mode' ;;
     decode:*) options+=' --more --layout' ;;
@@ -64,8 +63,8 @@ _lpt() {
         return
         ;;
     *:*:--mode:*) offered='any strict' ;;
-    :*) offered='run threads lint decode list split join extract link spacecraft verify compare checksum ground pass request help --help --version' ;;
-    help::help:*) offered='run threads lint decode list split join extract link spacecraft verify compare checksum ground pass request help' ;;
+    :*) offered='run threads decode list split join extract link spacecraft verify compare checksum ground pass request help --help --version' ;;
+    help::help:*) offered='run threads decode list split join extract link spacecraft verify compare checksum ground pass request help' ;;
     help::ground:* | help::pass:* | ground:help:help:* | pass:help:help:*) offered='load dump check patch' ;;
     help::request:* | request:help:help:*) offered='load dump check' ;;
     help:* | ground:help:* | pass:help:* | request:help:*) return ;;

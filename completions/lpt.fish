@@ -24,7 +24,6 @@ complete -c lpt -f
 # Commands.
 complete -c lpt -n '__lpt_is' -a run -d 'Run a script of the simulator'
 complete -c lpt -n '__lpt_is' -a threads -d 'Run a script, then let ten threads send and deliver what is open'
-complete -c lpt -n '__lpt_is' -a lint -d "Print which lines of a script can't be read, and why"
 complete -c lpt -n '__lpt_is' -a decode -d 'Decode a packet given in hexadecimal'
 complete -c lpt -n '__lpt_is' -a list -d 'List the packets of a file or a pipe'
 complete -c lpt -n '__lpt_is' -a split -d "Split a message into parts, and write their packets"
@@ -39,7 +38,7 @@ complete -c lpt -n '__lpt_is' -a ground -d 'Send requests to a memory until repo
 complete -c lpt -n '__lpt_is' -a pass -d 'Carry requests to a spacecraft over links that lose, all in one process'
 complete -c lpt -n '__lpt_is' -a request -d 'Write telecommands that load, dump or check a memory'
 complete -c lpt -n '__lpt_is' -a help -d 'Print the help of a command'
-complete -c lpt -n '__lpt_is help' -a 'run threads lint decode list split join extract link spacecraft verify compare checksum ground pass request help'
+complete -c lpt -n '__lpt_is help' -a 'run threads decode list split join extract link spacecraft verify compare checksum ground pass request help'
 for family in ground pass request
     complete -c lpt -n "__lpt_is help $family; or __lpt_is $family help" -a 'load dump check'
 end
@@ -62,7 +61,7 @@ complete -c lpt -n '__lpt_is request' -a help -d 'Print the help of a command'
 
 # Words.
 complete -c lpt -n '__lpt_is split; or __lpt_is join' -a 'up down'
-complete -c lpt -n '__lpt_at run; or __lpt_at threads; or __lpt_at lint; or __lpt_at list' -F
+complete -c lpt -n '__lpt_at run; or __lpt_at threads; or __lpt_at list' -F
 complete -c lpt -n '__lpt_at split up; or __lpt_at split down' -F
 complete -c lpt -n '__lpt_at join up; or __lpt_at join down' -F
 complete -c lpt -n '__lpt_at extract; or __lpt_at link; or __lpt_at verify; or __lpt_at compare; or __lpt_at checksum' -F

@@ -60,9 +60,18 @@ class Driver:
 
     def run(self, words, read=b"", environment=None):
         """Runs the program: its status, what it printed, and the lines of its complaint."""
+        return self.ran([self.program, *words], read, environment)
+
+    def package(self, words, read=b""):
+        """The same of a command of the package for Python."""
+        there = {"PYTHONPATH": str(TOP / "python"), "PYTHONDONTWRITEBYTECODE": "1"}
+        return self.ran([sys.executable, "-m", "forgesilver", *words], read, there)
+
+    def ran(self, command, read, environment):
+        """The same of any command."""
         try:
             ran = subprocess.run(
-                [self.program, *words],
+                command,
                 input=read,
                 capture_output=True,
                 env={**os.environ, **(environment or {})},

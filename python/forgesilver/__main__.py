@@ -1,4 +1,4 @@
-"""python3 -m forgesilver: pictures, tables, and a shell for the simulator, over the program lpt."""
+"""python3 -m forgesilver: pictures, tables, and a shell and a lint for the simulator, over the program lpt."""
 
 from __future__ import annotations
 
@@ -36,6 +36,8 @@ def _commands() -> argparse.ArgumentParser:
     chart.add_argument("--to", dest="last", metavar="N", type=int, help="of a script: the last event")
     shell = commands.add_parser("shell", parents=[own], help="answer the lines of a script as they are typed")
     shell.add_argument("script", nargs="?", help="first answer the lines of this script")
+    lint = commands.add_parser("lint", help="say which lines of scripts can't be read, and why, without a run")
+    lint.add_argument("scripts", nargs="+", metavar="SCRIPT", help="a script of the simulator, or - for standard input")
     table = commands.add_parser("list", parents=[own], help="list packets as a table")
     table.add_argument("files", nargs="+", metavar="FILE")
     return top
@@ -64,7 +66,7 @@ def _chart(asked: argparse.Namespace, options: list[str]) -> int:
 def main() -> int:
     """Does what the command line asks for. The status is 2 or 3 if that can't be done, as of lpt."""
     asked = _commands().parse_args()
-    given = {f"--{name}": getattr(asked, name.replace("-", "_")) for name in _OPTIONS}
+    given = {f"--{name}": getattr(asked, name.replace("-", "_"), None) for name in _OPTIONS}
     options = [it for name, value in given.items() if value is not None for it in (name, value)]
     try:
         if asked.command == "chart":
@@ -73,13 +75,13 @@ def main() -> int:
             from .shell import main as shell
 
             return shell(asked.script, *options)
+        if asked.command == "lint":
+            from .lint import main as lint
+
+            return lint(asked.scripts)
         from .table import main as table
 
         return table(asked.files, *options)
-    except BrokenPipeError:
-        # Nobody reads what is printed any more.
-        os.dup2(os.open(os.devnull, os.O_WRONLY), sys.stdout.fileno())
-        return 3
     except ProgramError as error:
         print(error, file=sys.stderr)
         return error.status if error.status in (2, 3) else 3
@@ -87,7 +89,11 @@ def main() -> int:
         print(f"forgesilver: {error}", file=sys.stderr)
         return 2
     except OSError as error:
-        print(f"forgesilver: {error}", file=sys.stderr)
+        # Where nobody reads what is printed any more, nothing is said.
+        if not isinstance(error, BrokenPipeError):
+            print(f"forgesilver: {error}", file=sys.stderr)
+        # What couldn't be written isn't tried again.
+        os.dup2(os.open(os.devnull, os.O_WRONLY), sys.stdout.fileno())
         return 3
 
 

@@ -1,4 +1,4 @@
-"""The lines of a script in words, for help and completion. Whether a line can be read, only the program says."""
+"""The lines of a script in words, for help, completion and lint."""
 
 from __future__ import annotations
 
@@ -26,7 +26,7 @@ FORMS = {
     "restart NODE": "restarts a node",
     "show released": "the messages that were released",
     "show packet N": "the octets of a packet",
-    "show memory ID ADDR LEN": "octets of a memory",
+    "show memory MEM ADDR LEN": "octets of a memory",
     "show clear DIRECTION ID": "whether nothing is left of a message",
     "show journal": "how many events have happened",
     "show link": "what the link holds, and the lanes' hands",
@@ -37,10 +37,12 @@ FORMS = {
 
 
 class Kind(NamedTuple):
-    """What a word in capitals stands for, and its words if it is one of some."""
+    """What a word in capitals stands for, its words if it is one of some, and the range of a number."""
 
     told: str
     words: tuple[str, ...] = ()
+    most: int = 0
+    least: int = 0
 
 
 KINDS = {
@@ -48,18 +50,18 @@ KINDS = {
     "NODE": Kind("ground or the spacecraft", ("ground", "craft")),
     "LANE": Kind("s1 and s2 carry up, g1 and g2 down", ("s1", "s2", "g1", "g2")),
     "WORKER": Kind("one of the spacecraft's workers", ("w1", "w2")),
-    "ID": Kind("a message, to 65535, or SOURCE/ID; of show memory a memory, to 255"),
-    "SOURCE": Kind("the source of a message or a request, to 65535"),
-    "K": Kind("a part, from 1"),
-    "N": Kind("a packet, from 0"),
-    "COUNT": Kind("ticks, from 1 to 100000"),
-    "FLAGS": Kind("the sum of 1 acceptance, 2 start, 4 progress, 8 completion; of plain also SOURCE/FLAGS"),
-    "SERVICE": Kind("a request's type, to 255"),
-    "SUBTYPE": Kind("a request's subtype, to 255"),
-    "SEQ": Kind("the sequence count of a request, to 16383"),
-    "MEM": Kind("a memory, to 255"),
-    "ADDR": Kind("an address in a memory, from 0"),
-    "LEN": Kind("how many octets"),
+    "ID": Kind("a message, to 65535, or SOURCE/ID", most=65_535),
+    "SOURCE": Kind("the source of a message or a request, to 65535", most=65_535),
+    "K": Kind("a part, from 1", most=65_535),
+    "N": Kind("a packet, from 0", most=9_999_999_999),
+    "COUNT": Kind("ticks, from 1 to 100000", most=100_000, least=1),
+    "FLAGS": Kind("the sum of 1 acceptance, 2 start, 4 progress, 8 completion; of plain also SOURCE/FLAGS", most=15),
+    "SERVICE": Kind("a request's type, to 255", most=255),
+    "SUBTYPE": Kind("a request's subtype, to 255", most=255),
+    "SEQ": Kind("the sequence count of a request, to 16383", most=16_383),
+    "MEM": Kind("a memory, to 255", most=255),
+    "ADDR": Kind("an address in a memory, from 0", most=4_294_967_295),
+    "LEN": Kind("how many octets", most=4_294_967_295),
     "HEX": Kind("octets, as pairs of hexadecimal digits, or - for none"),
 }
 

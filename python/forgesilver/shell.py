@@ -18,6 +18,7 @@ from collections.abc import Callable, Iterable, Iterator
 from typing import Any
 
 from .lines import FAULTS, FORMS, KINDS, wanted
+from .lint import explain
 from .program import ProgramError, Word
 from .session import UNREADABLE, Session
 
@@ -35,8 +36,6 @@ OWN = {
 }
 GREETING = "help tells the lines, Tab completes them, Ctrl-D ends the session"
 MOST_KEPT = 1000
-# Why the program can't read a line, and in which column.
-_REASON = re.compile(r"^lpt: .*?:\d+:(\d+): (.*)$", re.MULTILINE)
 # What stands for several numbers.
 _LIST = re.compile(r"(?=.*[-,])\d+(-\d+)?(,\d+(-\d+)?)*")
 MOST_NUMBERS = 65535
@@ -107,10 +106,10 @@ class Shell(cmd.Cmd):
         try:
             return self._ask(line)
         except ProgramError as error:
-            found = _REASON.search(str(error))
+            found = explain(line.encode("utf-8", "surrogateescape"))
             if error.status != UNREADABLE or found is None:
                 raise
-        self.status, column, why = 1, int(found[1]), found[2]
+        self.status, column, why = 1, found.column, found.said().decode(errors="replace")
         if is_typed and self.prompt:
             self._say(f"{' ' * (len(self.prompt) + column - 1)}^ {why}", "bad")
         else:

@@ -14,7 +14,7 @@ use lpt_io::{
 };
 use lpt_message_commands::{extract, join, join_each, join_layout, split, split_all};
 use lpt_packet_commands::{checksum, compare, decode, link, list, request, verify};
-use lpt_simulator_commands::{RunKind, lint, run};
+use lpt_simulator_commands::{RunKind, run};
 use std::io::IsTerminal;
 use std::process::{self, ExitCode};
 use std::rt::Env;
@@ -99,7 +99,6 @@ where
             run(rt, threads, settings, way, words.script)
         }
         Command::Threads(script) => run(rt, threads, settings, RunKind::Threads, script),
-        Command::Lint(script) => lint(rt, script),
         Command::Link(words) => link(rt, voice, words),
         Command::Ground(words) => ground(rt, threads, process, voice, settings, words),
         Command::Pass(words) => pass(rt, threads, process, voice, settings, words),

@@ -1,7 +1,7 @@
 //! The program as clap reads it, from the rows of its commands.
 
 use crate::asking::{CHECKSUM, COMPARE, REQUEST_CHECK, REQUEST_DUMP, REQUEST_LOAD, VERIFY};
-use crate::commands::{DECODE, EXTRACT, JOIN, LINT, LIST, RUN, SPLIT, THREADS};
+use crate::commands::{DECODE, EXTRACT, JOIN, LIST, RUN, SPLIT, THREADS};
 use crate::grounds::{
     GROUND_CHECK, GROUND_DUMP, GROUND_LOAD, GROUND_PATCH, GROUND_WORDS, PASS_CHECK, PASS_DUMP,
     PASS_LOAD, PASS_PATCH, PASS_WORDS,
@@ -19,7 +19,6 @@ Examples:
   lpt run examples/first_path.script    run the script of that file
   lpt run - --config settings.toml      run the script on standard input, line by line
   lpt threads examples/threads.script   run this script, and then ten threads
-  lpt lint examples/first_path.script   print which lines can't be read, and why
   lpt decode 07ffc000000000             decode this packet
   lpt list packets                      list the packets of this file
   lpt request load 1 0 image            write the telecommand that loads this file
@@ -35,7 +34,7 @@ Statuses:
   1  something was refused, failed, differs, is open or isn't whole, nothing was found,
      or octets are no packet (in some of these cases a command that only shows, joins or
      carries packets ends with 0: its section of docs/FILES.md says when)
-  2  the command line, a line of the script (lint: 1), HEX, the configuration, a layout or
+  2  the command line, a line of the script, HEX, the configuration, a layout or
      a list of patches can't be read
   3  a file can't be read or written, or is in use or of another job, memory ran out,
      or threads failed
@@ -67,7 +66,7 @@ fn add_meant<'a>(
     asked: Option<&str>,
     commands: &mut Vec<Command<'a>>,
 ) -> Result<(), AllocError> {
-    let scripts = [&RUN, &THREADS, &LINT];
+    let scripts = [&RUN, &THREADS];
     add_commands(alloc, asked, commands, &scripts, &[])?;
     let packets = [&DECODE, &LIST, &SPLIT, &JOIN, &EXTRACT];
     add_commands(alloc, asked, commands, &packets, &[])?;

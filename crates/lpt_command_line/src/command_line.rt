@@ -48,8 +48,6 @@ pub enum Command<'a> {
     Run(RunWords<'a>),
     /// `threads SCRIPT`: the script's path, or `-` for standard input.
     Threads(&'a str),
-    /// `lint SCRIPT`: the script's path, or `-` for standard input.
-    Lint(&'a str),
     /// `decode HEX`.
     Decode(DecodeWords<'a>),
     /// `list [FILE]..`.
@@ -184,7 +182,7 @@ fn command_of<'a>(
     words: &ArgMatches<'a>,
 ) -> Result<Command<'a>, WordFault<'a>> {
     match name {
-        "run" | "threads" | "lint" => script_command(name, words),
+        "run" | "threads" => script_command(name, words),
         "list" => list_command(alloc, words),
         "join" if words.get_str("layout").is_some() => join_layout_command(alloc, words),
         "split" if words.get_flag("each") => split_each_command(alloc, words),
@@ -212,7 +210,6 @@ fn script_command<'a>(name: &str, words: &ArgMatches<'a>) -> Result<Command<'a>,
             script,
             views: words.get_flag("views"),
         }),
-        "threads" => Command::Threads(script),
-        _ => Command::Lint(script),
+        _ => Command::Threads(script),
     })
 }

@@ -104,15 +104,6 @@ pub(crate) static THREADS: CommandRow = CommandRow {
     configured: Configured::Nodes,
 };
 
-/// `lint`.
-pub(crate) static LINT: CommandRow = CommandRow {
-    name: "lint",
-    about: "Print which lines of a script can't be read, and why",
-    words: &[SCRIPT],
-    named: &[],
-    configured: Configured::No,
-};
-
 /// `decode`.
 pub(crate) static DECODE: CommandRow = CommandRow {
     name: "decode",

@@ -1,42 +1,32 @@
 //! How a command ends that ran a script.
 
-use crate::linting::tell_unreadable;
-use crate::recalled::Script;
-use lpt_io::{Failure, Fault, Machine, Status, name_of, status_of};
+use lpt_io::{Failure, Fault, Machine, Status, name_of, status_of, tell_text};
 use lpt_script::ScriptEnd;
 use lpt_share::ShareFault;
 use lpt_text::LONGEST_TEXT;
 use lpt_tool::ToolFault;
 use std::io;
 
-/// How the run of a script at this path ends, which may have asked for views, after it was told why
-/// its last line is unreadable, if it is.
+/// How the run of a script at this path ends, by the error of a read that failed, if one did.
+/// Standard error was told at which line the run ended, if that is unreadable.
 pub fn status_at_end<R: Machine>(
     rt: &R,
-    source: &Script<R>,
-    path: &str,
-    has_views: bool,
-    ran: Result<ScriptEnd, ToolFault>,
-) -> Result<Status, Failure> {
-    let watched = source.inner();
-    if let Err(ToolFault::Line(number)) = ran {
-        let text = watched.inner().octets_kept();
-        tell_unreadable(rt, path, has_views, number, text);
-    }
-    status_after(rt, watched.error(), path, ran)
-}
-
-/// How the run of a script ends, by the error of a read that failed, if one did.
-pub fn status_after(
-    rt: &impl AllocGlobal,
     error: Option<&io::Error>,
     path: &str,
     ran: Result<ScriptEnd, ToolFault>,
 ) -> Result<Status, Failure> {
+    let name = name_of(path);
     match ran {
         Ok(end) => Ok(status_of(end.refused > 0)),
+        Err(ToolFault::Line(number)) => {
+            let why = "python3 -m forgesilver lint says why";
+            tell_text(
+                rt,
+                format!(in rt.alloc(); "{name}:{number}: unreadable; {why}"),
+            );
+            Err(Failure::from(Fault::Line))
+        }
         Err(ToolFault::Read) => {
-            let name = name_of(path);
             let place = match error {
                 Some(error) => format!(in rt.alloc(); "{name}: {error}"),
                 None => format!(in rt.alloc(); "{name}: more than {LONGEST_TEXT} octets"),

@@ -1,10 +1,11 @@
 //! Scripts run, with threads behind them and without.
 
 use crate::ends::status_at_end;
-use crate::recalled::{Script, opened_script};
 use lpt_command_line::SettingWords;
 use lpt_events::{Config, Turns};
-use lpt_io::{Failure, Machine, Status, finish, output, settings_of, tell_place};
+use lpt_io::{
+    Failure, Incoming, Machine, Status, finish, open_input, output, settings_of, tell_place,
+};
 use lpt_memory::Memories;
 use lpt_script::ScriptEnd;
 use lpt_script_views::run_views;
@@ -27,7 +28,7 @@ pub enum RunKind {
 /// of the configuration that the words give.
 ///
 /// Errors: `Config` if that is refused; `Line` at an unreadable line, after standard error was
-/// told why it is; `Read` if the script or the configuration can't be opened or read, `Write`
+/// told which it is; `Read` if the script or the configuration can't be opened or read, `Write`
 /// if a write failed, `Memory`, `Threads` if the threads failed.
 pub fn run<R: Machine, T: Threads + Wait + Sync>(
     rt: &R,
@@ -37,16 +38,15 @@ pub fn run<R: Machine, T: Threads + Wait + Sync>(
     script: &str,
 ) -> Result<Status, Failure> {
     let (config, memories, turns) = settings_of(rt, settings)?;
-    let mut source = match opened_script(rt, script) {
+    let mut source = match open_input(rt, script) {
         Ok(source) => source,
         Err(failure) => {
             drop(memories);
             return Err(failure);
         }
     };
-    let has_views = matches!(way, RunKind::Views);
     let status = lines_run(rt, threads, config, memories, turns, way, &mut source).and_then(
-        |ran| status_at_end(rt, &source, script, has_views, ran),
+        |ran| status_at_end(rt, source.inner().error(), script, ran),
     );
     drop(source);
     status
@@ -61,7 +61,7 @@ fn lines_run<R: Machine, T: Threads + Wait + Sync>(
     memories: Memories,
     turns: Turns,
     way: RunKind,
-    source: &mut Script<R>,
+    source: &mut Incoming<R>,
 ) -> Result<Result<ScriptEnd, ToolFault>, Failure> {
     let mut out = match output(rt) {
         Ok(out) => out,

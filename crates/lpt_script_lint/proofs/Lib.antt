@@ -1,9 +1,0 @@
-pub mod AreaFronts
-pub mod AreaLemmas
-pub mod ExactLemmas
-pub mod FrontLemmas
-pub mod LineLemmas
-pub mod LintLemmas
-pub mod OctetLemmas
-pub mod ValueLemmas
-pub mod WordFronts
