@@ -1,387 +1,290 @@
 -- Packets of a stream, carried one after the other.
-use Rattle.std.proofs.Common.{◌≡◌, ◌∙◌, ap, sym, refl, subst, ℕ, ◌+◌, ◌-◌, ◌^◌, ◌≤◌, min, Bool, List, [], ◌∷◌, ◌++◌, length, take, drop, Option, Err, append-nil, append_assoc, arith}
-use Rattle.std.specs.List.{concat, flat_map, AllByRecursion}
+use Rattle.std.proofs.Common.{◌≡◌, ◌∙◌, ap, sym, refl, subst, ℕ, ◌+◌, Bool, true, List, [], ◌∷◌, ◌++◌, length, take, drop, replicate, inl, inr, Option, None, Some, Err, append-nil, append_assoc, arith}
+use Rattle.std.specs.Prelude.{Contains, IfSome}
+use Rattle.std.specs.List.{concat, AllByRecursion}
 use Rattle.std.specs.Io.KnownBytes.{Appends, Consumes, Keeps}
 use Rattle.std.proofs.KnownBytes.{Appends-kept, Appends-nil, Appends-trans, Consumes-nil, Consumes-trans}
-use Rattle.std.proofs.lemmas.List.{length-append, length-take-le}
+use Rattle.std.proofs.lemmas.List.{length-append, length-replicate, take-append-drop}
+use Rattle.std.proofs.lemmas.List.Concat.{flat_map-append}
+use Rattle.std.proofs.lemmas.List.Elements.{Contains-append_left, Contains-push}
 use Rattle.lpt_text.specs.Streams.{AppendsPart}
-use Rattle.lpt_text.proofs.StreamLemmas.{part_after, part_of_front, part_unchanged, part_whole}
+use Rattle.lpt_text.proofs.StreamLemmas.{part_after, part_unchanged, part_whole}
 use Rattle.lpt_text.specs.declared.fault.StreamFault.{StreamFault}
-use Rattle.lpt_stream.specs.Pieces.{up_to_limit}
 use Rattle.lpt_stream.specs.Streams.{all_octets}
 use Rattle.lpt_stream.specs.Buffers.{octets_held, FindsPassing, Goes}
 use Rattle.lpt_stream.specs.declared.buffer.PacketBuffer.{PacketBuffer}
 use Rattle.lpt_stream.proofs.BufferLemmas.{passing-lost}
-use Rattle.lpt_lossy.specs.declared.counts.CrossingCounts.{CrossingCounts}
+use Rattle.lpt_carried.specs.declared.layouts.Layouts.{Layouts}
+use Rattle.lpt_lossy.specs.declared.dice.Dice.{Dice}
+use Rattle.lpt_lossy.specs.declared.dice.Odds.{Odds}
+use Rattle.lpt_lossy.specs.declared.fate.Burst.{Burst}
 use Rattle.lpt_lossy.specs.declared.fate.Fate.{Fate}
-use Rattle.lpt_lossy.specs.declared.link.LossyLink.{LossyLink}
-use Rattle.lpt_lossy.specs.declared.turns.Turns.{Turns as TurnBuffers}
-use Rattle.lpt_lossy.specs.Carrying.{first_turn, at_once, so_far, turns_first, turns_left, packets_carried}
-use Rattle.lpt_lossy.specs.Counts.{IsCounted}
-use Rattle.lpt_lossy.specs.Ends.{CarriesAll, CarriesPart, IsEndless}
-use Rattle.lpt_lossy.specs.Frames.{EndsAt, IsFrame}
-use Rattle.lpt_lossy.specs.TurnsInside.{IsHeld, carried_now, carried_turns, turn_octets}
-use Rattle.lpt_lossy.specs.Ways.{Crossing, crossings, fate_settled, way}
-use Rattle.lpt_lossy.proofs.CutLemmas.{all-more, held-cut, octets-more}
-use Rattle.lpt_lossy.proofs.FrontLemmas.{cutting-more, ends-there, HasPacket, IsCutting}
-use Rattle.lpt_lossy.proofs.TurnLemmas.{octets-append, octets-turns, octets-now, held-next, so_far-append, left-append}
+use Rattle.lpt_lossy.specs.declared.turns.Turns.{Turns}
+use Rattle.lpt_lossy.specs.Bursts.{can_change, is_allowed, with_burst}
+use Rattle.lpt_lossy.specs.Ends.{Carries, CarriesPart, ComesFrom, IsEndless}
+use Rattle.lpt_lossy.specs.Frames.{IsFrame}
+use Rattle.lpt_lossy.specs.TurnsInside.{carried_now, carried_turns, turn_octets}
+use Rattle.lpt_lossy.proofs.DamageLemmas.{damage}
+use Rattle.lpt_lossy.proofs.FrontLemmas.{cutting-more, HasPacket, IsCutting}
+use Rattle.lpt_lossy.proofs.MadeLemmas.{all-more, all_made-none, all_made-weaker, length-carried, made-append, made-concat, made-none, made-now, made-then, made-weaker, AllMade, Made}
 
--- these packets were read and carried, and all of them were decided by the decider
-pub record IsAt {D : Type 0} (decides : D → ℕ → Fate × D) (link : LossyLink) (first now : D)
-    (before after old new : Option (List ℕ)) (b : PacketBuffer) (t : TurnBuffers)
-    (c : CrossingCounts) (place count : ℕ) : Type 0 where
-  pub frames : List (List ℕ)
-  pub consumed : Consumes before after (all_octets frames ++ octets_held b)
-  pub cutting : IsCutting b after
-  pub are : AllByRecursion IsFrame frames
-  pub count_is : length frames ≡ count
-  pub place_is : place ≡ up_to_limit (length (all_octets frames))
-  pub wrote : Appends old new (all_octets (so_far link (turns_first link)
-      (crossings decides first frames)))
-  pub holds : IsHeld (turns_left link (turns_first link) (crossings decides first frames)) t
-  pub counted : IsCounted link (crossings decides first frames) c
-  pub decided : (more : List (List ℕ)) → crossings decides first (frames ++ more)
-      ≡ crossings decides first frames ++ crossings decides now more
+-- these packets were read and carried
+pub record IsAt (l : Layouts) (odds : Odds) (most : ℕ) (before after old new : Option (List ℕ))
+    (b : PacketBuffer) (t : Turns) (dice : Dice) (count : ℕ) : Type 0 where
+  pub packets : List (List ℕ)
+  pub consumed : Consumes before after (all_octets packets ++ octets_held b)
+  pub cutting : IsCutting b
+  pub are : AllByRecursion IsFrame packets
+  pub count_is : length packets ≡ count
+  pub written : List ℕ
+  pub made : Made (ComesFrom l odds packets) written
+  pub wrote : Appends old new written
+  pub held : AllMade (ComesFrom l odds packets) (turn_octets t)
+  pub turns_are : length (turn_octets t) ≡ most + 1
+  pub odds_are : dice.odds ≡ odds
 
 -- nothing was read
-pub at-none : {D : Type 0} (decides : D → ℕ → Fate × D) (link : LossyLink) (first : D)
-    (a k : Option (List ℕ)) (b : PacketBuffer) (t : TurnBuffers) (c : CrossingCounts)
-    → Consumes a a []
+pub at-none : (l : Layouts) (most : ℕ) (a k : Option (List ℕ)) (b : PacketBuffer) (t : Turns)
+    (dice : Dice)
     → octets_held b ≡ []
-    → IsCutting b a
-    → IsHeld (turns_first link) t
-    → ((m : LossyLink) → IsCounted m [] c)
-    → IsAt decides link first first a a k k b t c 0 0
-at-none decides link first a k b t c nothing none cutting holds counted = record {
-  frames = [];
-  consumed = subst (Consumes a a) (sym none) nothing;
+    → IsCutting b
+    → turn_octets t ≡ replicate (most + 1) []
+    → IsAt l dice.odds most a a k k b t dice 0
+at-none l most a k b t dice none cutting empty = record {
+  packets = [];
+  consumed = subst (Consumes a a) (sym none) (Consumes-nil a);
   cutting = cutting;
   are = tt;
   count_is = refl;
-  place_is = refl;
+  written = [];
+  made = made-none (ComesFrom l dice.odds []);
   wrote = Appends-nil k;
-  holds = holds;
-  counted = counted link;
-  decided = λ more. refl;
+  held = subst (AllMade (ComesFrom l dice.odds [])) (sym empty)
+      (all_made-none (ComesFrom l dice.odds []) (most + 1));
+  turns_are = ap (λ (os : List (List ℕ)). length os) empty ∙ length-replicate (most + 1) [];
+  odds_are = refl;
 }
 
--- more was read, and what was written stayed
-pub at-more : {D : Type 0} (decides : D → ℕ → Fate × D) (link : LossyLink) (first now : D)
-    (before after later old new new2 : Option (List ℕ)) (b b2 : PacketBuffer) (t : TurnBuffers)
-    (c : CrossingCounts) (place count : ℕ) (read : List ℕ)
-    → IsAt decides link first now before after old new b t c place count
-    → Goes b b2 after later read
-    → Keeps new new2
-    → IsAt decides link first now before later old new2 b2 t c place count
-at-more decides link first now before after later old new new2 b b2 t c place count read w goes
-    same =
-    let seen = append_assoc (all_octets w.frames) (octets_held b) read
-    ∙ ap (λ (o : List ℕ). all_octets w.frames ++ o) (sym goes.added.behind) in
-    record {
-      frames = w.frames;
-      consumed = subst (Consumes before later) seen
-          (Consumes-trans before after later _ read w.consumed goes.added.consumed);
-      cutting = cutting-more b b2 after later read w.cutting goes;
-      are = w.are;
-      count_is = w.count_is;
-      place_is = w.place_is;
-      wrote = Appends-kept old new new2 _ w.wrote same;
-      holds = w.holds;
-      counted = w.counted;
-      decided = w.decided;
-    }
+-- ---- the packet in front
 
--- ---- one more packet
+-- what is held, cut behind the packet in front
+held-cut : (bs : List (List ℕ)) (len : ℕ) (b : List ℕ)
+    → all_octets bs ++ b ≡ all_octets (bs ++ take len b ∷ []) ++ drop len b
+held-cut bs len b =
+    ap (λ (o : List ℕ). all_octets bs ++ o) (sym (take-append-drop len b))
+    ∙ sym (append_assoc (all_octets bs) (take len b) (drop len b))
+    ∙ ap (λ (o : List ℕ). o ++ drop len b)
+    (ap (λ (r : List ℕ). all_octets bs ++ r) (sym (append-nil (take len b)))
+    ∙ sym (flat_map-append (λ (b : List ℕ). b) bs (take len b ∷ [])))
 
--- what is written up to one more packet
-octets-so_far : (link : LossyLink) (xs : List Crossing) (x : Crossing)
-    → all_octets (so_far link (turns_first link) (xs ++ x ∷ []))
-    ≡ all_octets (so_far link (turns_first link) xs)
-    ++ all_octets (at_once link x ++ first_turn (turns_left link (turns_first link) xs))
-octets-so_far link xs x =
-    let ts = turns_left link (turns_first link) xs in
-    ap all_octets (so_far-append link (turns_first link) xs (x ∷ []))
-    ∙ octets-append (so_far link (turns_first link) xs) (so_far link ts (x ∷ []))
-    ∙ ap (λ (ps : List (List ℕ)). all_octets (so_far link (turns_first link) xs) ++ all_octets ps)
-    (append-nil (at_once link x ++ first_turn ts))
+-- what befalls a packet is what was decided, and is allowed as that is
+still-allowed : (P : Burst → Type 0) (v w : Option Burst)
+    → IfSome w (λ u. v ≡ Some u)
+    → IfSome v P
+    → IfSome w P
+still-allowed P v None decided h = tt
+still-allowed P v (Some u) decided h = subst (λ v. IfSome v P) decided h
 
--- the packet in front, and what somebody decides of it
-abbrev pub next_crossing : PacketBuffer → (len : ℕ) → Fate → Crossing
-next_crossing b len f = record { octets = take len (octets_held b); fate = f }
+comes-changed : (l : Layouts) (odds : Odds) (packets : List (List ℕ)) (p : List ℕ)
+    (v : Option Burst)
+    → Contains packets p
+    → IfSome v (λ u. is_allowed odds u.in_header ≡ true)
+    → IfSome v (λ u. can_change l u p ≡ true)
+    → ComesFrom l odds packets (with_burst v p)
+comes-changed l odds packets p None among allowed shows = (p, among, inl refl)
+comes-changed l odds packets p (Some u) among allowed shows =
+    (p, among, inr (damage l odds u p allowed shows))
 
--- it is the next of those that are decided
-next-is : {D : Type 0} (decides : D → ℕ → Fate × D) (now next : D) (f : Fate) (b : PacketBuffer)
-    (len : ℕ)
-    (more : List (List ℕ))
-    → len ≤ length (octets_held b)
-    → (f, next) ≡ decides now len
-    → crossings decides now (take len (octets_held b) ∷ more)
-    ≡ next_crossing b len f ∷ crossings decides next more
-next-is {D} decides now next f b len more within e =
-    let size : length (take len (octets_held b)) ≡ len = length-take-le len (octets_held b) within in
-    let said : decides now (length (take len (octets_held b))) ≡ (f, next) = ap (decides now) size
-    ∙ sym e in
-    ap (λ (d : Fate × D). record { octets = take len (octets_held b); fate = d.0 } ∷ crossings decides d.1
-    more) said
+comes-yet : (l : Layouts) (odds : Odds) (packets : List (List ℕ)) (p b : List ℕ)
+    → ComesFrom l odds packets b
+    → ComesFrom l odds (packets ++ p ∷ []) b
+comes-yet l odds packets p b c = (c.0, Contains-append_left packets (p ∷ []) c.0 c.1, c.2)
 
--- the packet in front was carried, and what it became is counted
-pub record IsCarried {D : Type 0} (decides : D → ℕ → Fate × D) (link : LossyLink) (now next : D)
-    (new new2 : Option (List ℕ)) (b : PacketBuffer) (t : TurnBuffers) (c : CrossingCounts)
-    (place len : ℕ) (f : Fate) (o : List ℕ) (w : Fate) (t2 : TurnBuffers) (c2 : CrossingCounts) :
+-- the packet in front, and what befalls it
+pub record IsNext (l : Layouts) (odds : Odds) (b : PacketBuffer) (len : ℕ) (o : List ℕ) (w : Fate) :
     Type 0 where
   pub front : HasPacket (octets_held b) len
   pub octets_are : o ≡ take len (octets_held b)
-  pub fate_is : (f, next) ≡ decides now len
-  pub way_is : w ≡ fate_settled link f o
-  pub written : Appends new new2 (carried_now w o (turn_octets t))
-  pub held_is : turn_octets t2 ≡ carried_turns w o (turn_octets t)
-  pub added : (m : LossyLink) (xs : List Crossing) (x : Crossing) → w ≡ way m x → IsCounted m xs c
-      → IsCounted m (xs ++ x ∷ []) c2
+  pub allowed : IfSome w.burst (λ u. is_allowed odds u.in_header ≡ true)
+  pub shows : IfSome w.burst (λ u. can_change l u o ≡ true)
 
-crossed : {D : Type 0} (decides : D → ℕ → Fate × D) (link : LossyLink) (first now next : D)
-    (before after old new : Option (List ℕ)) (b : PacketBuffer) (t : TurnBuffers)
-    (c : CrossingCounts) (place count len : ℕ) (f : Fate)
-    → (w : IsAt decides link first now before after old new b t c place count)
-    → len ≤ length (octets_held b)
-    → (f, next) ≡ decides now len
-    → crossings decides first (w.frames ++ take len (octets_held b) ∷ [])
-    ≡ crossings decides first w.frames ++ next_crossing b len f ∷ []
-crossed decides link first now next before after old new b t c place count len f w within e =
-    w.decided (take len (octets_held b) ∷ [])
-    ∙ ap (λ (ys : List Crossing). crossings decides first w.frames ++ ys)
-    (next-is decides now next f b len [] within e)
-
--- what is written with the packet in front
-now-is : (link : LossyLink) (b : PacketBuffer) (len : ℕ) (f : Fate) (o : List ℕ) (w : Fate)
-    (t : TurnBuffers) (xs : List Crossing)
-    → o ≡ take len (octets_held b)
-    → w ≡ fate_settled link f o
-    → IsHeld (turns_left link (turns_first link) xs) t
-    → carried_now w o (turn_octets t)
-    ≡ all_octets (at_once link (next_crossing b len f)
-    ++ first_turn (turns_left link (turns_first link) xs))
-now-is link b len f o w t xs oe we h =
-    ap (λ (w : Fate). carried_now w o (turn_octets t)) we
-    ∙ ap (λ (o : List ℕ). carried_now (fate_settled link f o) o (turn_octets t)) oe
-    ∙ octets-now link (next_crossing b len f) (turns_left link (turns_first link) xs) t h
-
--- and what is held then
-then-held : (link : LossyLink) (b : PacketBuffer) (len : ℕ) (f : Fate) (o : List ℕ) (w : Fate)
-    (t t2 : TurnBuffers)
-    (xs : List Crossing)
-    → o ≡ take len (octets_held b)
-    → w ≡ fate_settled link f o
-    → IsHeld (turns_left link (turns_first link) xs) t
-    → turn_octets t2 ≡ carried_turns w o (turn_octets t)
-    → IsHeld (turns_left link (turns_first link) (xs ++ next_crossing b len f ∷ [])) t2
-then-held link b len f o w t t2 xs oe we h e =
-    subst (λ ts. IsHeld ts t2)
-    (sym (left-append link (turns_first link) xs (next_crossing b len f ∷ [])))
-    (held-next link (next_crossing b len f) (turns_left link (turns_first link) xs) t t2 h
-    (e ∙ ap (λ (w : Fate). carried_turns w o (turn_octets t)) we
-    ∙ ap (λ (o : List ℕ). carried_turns (fate_settled link f o) o (turn_octets t)) oe))
-
-way-is : (link : LossyLink) (b : PacketBuffer) (len : ℕ) (f : Fate) (o : List ℕ) (w : Fate)
-    → o ≡ take len (octets_held b)
-    → w ≡ fate_settled link f o
-    → w ≡ way link (next_crossing b len f)
-way-is link b len f o w oe we = we ∙ ap (fate_settled link f) oe
-
-place-next : (bs : List (List ℕ)) (len : ℕ) (b : List ℕ) (place next : ℕ)
-    → len ≤ length b
-    → place ≡ up_to_limit (length (all_octets bs))
-    → next ≡ min (place + len) (2 ^ 64 - 1)
-    → next ≡ up_to_limit (length (all_octets (bs ++ take len b ∷ [])))
-place-next bs len b place next within is there =
-    let more = ap (λ (o : List ℕ). length o) (octets-more bs (take len b)) in
-    omega (arith, more, length-append (all_octets bs) (take len b), length-take-le len b within)
-
-pub at-next : {D : Type 0} (decides : D → ℕ → Fate × D) (link : LossyLink) (first now next : D)
-    (before after old new new2 : Option (List ℕ)) (b b2 : PacketBuffer) (t t2 : TurnBuffers)
-    (c c2 : CrossingCounts)
-    (place place2 count len : ℕ) (f : Fate) (o : List ℕ) (w : Fate)
-    → IsAt decides link first now before after old new b t c place count
-    → IsCarried decides link now next new new2 b t c place len f o w t2 c2
-    → place2 ≡ min (place + len) (2 ^ 64 - 1)
-    → octets_held b2 ≡ drop len (octets_held b)
-    → IsCutting b2 after
-    → IsAt decides link first next before after old new2 b2 t2 c2 place2 (count + 1)
-at-next decides link first now next before after old new new2 b b2 t t2 c c2 place place2 count len
-    f o w at one there rest cutting =
-    let front = take len (octets_held b) in
-    let xs = crossings decides first at.frames in
-    let x = next_crossing b len f in
-    let more = crossed decides link first now next before after old new b t c place count len f at
-    one.front.within one.fate_is in
-    record {
-      frames = at.frames ++ front ∷ [];
-      consumed = subst (Consumes before after)
-          (held-cut at.frames len (octets_held b)
-          ∙ ap (λ (r : List ℕ). all_octets (at.frames ++ front ∷ []) ++ r) (sym rest)) at.consumed;
-      cutting = cutting;
-      are = all-more at.frames front at.are one.front.frame;
-      count_is = omega (arith, length-append {A = List ℕ} at.frames (front ∷ []), at.count_is);
-      place_is = place-next at.frames len (octets_held b) place place2 one.front.within at.place_is
-          there;
-      wrote = subst (λ (ys : List Crossing). Appends old new2
-          (all_octets (so_far link (turns_first link) ys))) (sym more)
-          (subst (Appends old new2) (sym (octets-so_far link xs x))
-          (Appends-trans old new new2 _ _ at.wrote
-          (subst (Appends new new2)
-          (now-is link b len f o w t xs one.octets_are one.way_is at.holds) one.written)));
-      holds = subst (λ (ys : List Crossing). IsHeld (turns_left link (turns_first link) ys) t2)
-          (sym more)
-          (then-held link b len f o w t t2 xs one.octets_are one.way_is at.holds one.held_is);
-      counted = subst (λ (ys : List Crossing). IsCounted link ys c2) (sym more)
-          (one.added link xs x (way-is link b len f o w one.octets_are one.way_is) at.counted);
-      decided = λ rest.
-          ap (crossings decides first) (append_assoc at.frames (front ∷ []) rest)
-          ∙ at.decided (front ∷ rest)
-          ∙ ap (λ (ys : List Crossing). xs ++ ys) (next-is decides now next f b len rest
-          one.front.within one.fate_is)
-          ∙ sym (append_assoc xs (x ∷ []) (crossings decides next rest))
-          ∙ ap (λ (ys : List Crossing). ys ++ crossings decides next rest) (sym more);
-    }
-
--- ---- ends
-
--- a front part of what is written as packets come is one of all that is written
-part-carried : (link : LossyLink) (xs : List Crossing) (old new : Option (List ℕ))
-    → AppendsPart old new (all_octets (so_far link (turns_first link) xs))
-    → AppendsPart old new (all_octets (packets_carried link xs))
-part-carried link xs old new part =
-    let last = flat_map (λ (t : List (List ℕ)). t) (turns_left link (turns_first link) xs) in
-    subst (AppendsPart old new) (sym (octets-append (so_far link (turns_first link) xs) last))
-    (part_of_front old new _ (all_octets last) part)
-
--- the packet in front was carried in part
-pub at-part : {D : Type 0} (decides : D → ℕ → Fate × D) (link : LossyLink) (first now next : D)
-    (before after old new new2 : Option (List ℕ)) (b : PacketBuffer) (t : TurnBuffers)
-    (c : CrossingCounts) (place count len : ℕ) (f : Fate) (o : List ℕ) (w : Fate)
-    → IsAt decides link first now before after old new b t c place count
+pub next-is : (l : Layouts) (odds thrown : Odds) (b : PacketBuffer) (len : ℕ) (held : List ℕ)
+    (v : Option Burst) (w : Fate)
     → HasPacket (octets_held b) len
-    → o ≡ take len (octets_held b)
-    → (f, next) ≡ decides now len
-    → w ≡ fate_settled link f o
-    → AppendsPart new new2 (carried_now w o (turn_octets t))
-    → CarriesPart decides link first before after old new2
-at-part decides link first now next before after old new new2 b t c place count len f o w at front
-    oe fe we part =
-    let xs = crossings decides first at.frames in
-    let more = crossed decides link first now next before after old new b t c place count len f at
-    front.within fe in (
-      at.frames ++ take len (octets_held b) ∷ [],
-      drop len (octets_held b),
-      subst (Consumes before after) (held-cut at.frames len (octets_held b)) at.consumed,
-      all-more at.frames (take len (octets_held b)) at.are front.frame,
-      subst (λ (ys : List Crossing). AppendsPart old new2 (all_octets (packets_carried link ys)))
-          (sym more) (part-carried link (xs ++ next_crossing b len f ∷ []) old new2
-          (subst (AppendsPart old new2) (sym (octets-so_far link xs (next_crossing b len f)))
-          (part_after old new new2 _ _ at.wrote
-          (subst (AppendsPart new new2) (now-is link b len f o w t xs oe we at.holds) part)))),
-    )
+    → held ≡ octets_held b
+    → thrown ≡ odds
+    → IfSome v (λ u. is_allowed thrown u.in_header ≡ true)
+    → IfSome w.burst (λ u. v ≡ Some u)
+    → IfSome w.burst (λ u. can_change l u (take len held) ≡ true)
+    → IsNext l odds b len (take len held) w
+next-is l odds thrown b len held v w front held_is same allowed decided shows = record {
+  front = front;
+  octets_are = ap (take len) held_is;
+  allowed = still-allowed (λ u. is_allowed odds u.in_header ≡ true) v w.burst decided
+      (subst (λ (o : Odds). IfSome v (λ u. is_allowed o u.in_header ≡ true)) same allowed);
+  shows = shows;
+}
 
--- the work stops behind packets that were carried
-pub at-lost : {D : Type 0} (decides : D → ℕ → Fate × D) (link : LossyLink) (first now : D)
-    (before after old new : Option (List ℕ)) (b : PacketBuffer) (t : TurnBuffers)
-    (c : CrossingCounts) (place count : ℕ)
-    → IsAt decides link first now before after old new b t c place count
-    → CarriesPart decides link first before after old new
-at-lost decides link first now before after old new b t c place count at = (
-  at.frames,
-  octets_held b,
-  at.consumed,
-  at.are,
-  part-carried link (crossings decides first at.frames) old new (part_whole old new _ at.wrote),
-)
+-- what it becomes comes from the packets up to it
+next-comes : (l : Layouts) (odds : Odds) (packets : List (List ℕ)) (b : PacketBuffer) (len : ℕ)
+    (o : List ℕ) (w : Fate)
+    → IsNext l odds b len o w
+    → ComesFrom l odds (packets ++ take len (octets_held b) ∷ []) (with_burst w.burst o)
+next-comes l odds packets b len o w next =
+    let front = take len (octets_held b) in
+    comes-changed l odds (packets ++ front ∷ []) o w.burst
+    (subst (Contains (packets ++ front ∷ [])) (sym next.octets_are) (Contains-push packets front))
+    next.allowed next.shows
 
--- a read or a write failed, or octets were lost for which there was no memory
-pub at-fault : {D : Type 0} (decides : D → ℕ → Fate × D) (link : LossyLink) (first now : D)
-    (e : StreamFault)
-    (before after later old new new2 : Option (List ℕ)) (b b2 : PacketBuffer) (t : TurnBuffers)
-    (c : CrossingCounts) (place count : ℕ) (had failed : Bool)
-    → IsAt decides link first now before after old new b t c place count
-    → FindsPassing (Err e) b b2 after later had failed
-    → Keeps new new2
-    → CarriesPart decides link first before later old new2
-at-fault decides link first now e before after later old new new2 b b2 t c place count had failed at
-    found same =
-    let lost = passing-lost e b b2 after later had failed found in (
-      at.frames,
-      octets_held b ++ lost.0,
-      subst (Consumes before later) (append_assoc (all_octets at.frames) (octets_held b) lost.0)
-          (Consumes-trans before after later _ lost.0 at.consumed lost.1),
-      at.are,
-      part-carried link (crossings decides first at.frames) old new2
-          (part_whole old new2 _ (Appends-kept old new new2 _ at.wrote same)),
-    )
-
--- what is held is all that is left to write
-octets-held : (link : LossyLink) (xs : List Crossing) (t : TurnBuffers)
-    → IsHeld (turns_left link (turns_first link) xs) t
-    → all_octets (so_far link (turns_first link) xs) ++ concat (turn_octets t)
-    ≡ all_octets (packets_carried link xs)
-octets-held link xs t h =
-    let ts = turns_left link (turns_first link) xs in
-    ap (λ (b : List ℕ). all_octets (so_far link (turns_first link) xs) ++ b)
-    (ap concat h.octets_are ∙ octets-turns ts)
-    ∙ sym (octets-append (so_far link (turns_first link) xs)
-    (flat_map (λ (t : List (List ℕ)). t) ts))
-
--- no more packets come, and what was held is written
-pub at-end : {D : Type 0} (decides : D → ℕ → Fate × D) (link : LossyLink) (first now : D)
-    (before after old new new2 : Option (List ℕ)) (b : PacketBuffer) (t : TurnBuffers)
-    (c : CrossingCounts) (place count : ℕ) (stray : Option ℕ)
-    → IsAt decides link first now before after old new b t c place count
-    → EndsAt stray place (octets_held b) after
-    → Appends new new2 (concat (turn_octets t))
-    → CarriesAll decides link first (record { counts = c; stray = stray }) before after old new2
-at-end decides link first now before after old new new2 b t c place count stray at ends last = (
-  at.frames,
-  octets_held b,
-  at.consumed,
-  at.are,
-  ends-there stray place (length (all_octets at.frames)) (octets_held b) after at.place_is ends,
-  subst (Appends old new2) (octets-held link (crossings decides first at.frames) t at.holds)
-      (Appends-trans old new new2 _ _ at.wrote last),
-  at.counted,
-)
-
--- the same, written in part
-pub at-end-part : {D : Type 0} (decides : D → ℕ → Fate × D) (link : LossyLink) (first now : D)
-    (before after old new new2 : Option (List ℕ)) (b : PacketBuffer) (t : TurnBuffers)
-    (c : CrossingCounts) (place count : ℕ)
-    → IsAt decides link first now before after old new b t c place count
-    → AppendsPart new new2 (concat (turn_octets t))
-    → CarriesPart decides link first before after old new2
-at-end-part decides link first now before after old new new2 b t c place count at part = (
-  at.frames,
-  octets_held b,
-  at.consumed,
-  at.are,
-  subst (AppendsPart old new2) (octets-held link (crossings decides first at.frames) t at.holds)
-      (part_after old new new2 _ _ at.wrote part),
-)
-
--- so many packets came
-pub at-most : {D : Type 0} (decides : D → ℕ → Fate × D) (link : LossyLink) (first now : D)
-    (before after old new : Option (List ℕ)) (b : PacketBuffer) (t : TurnBuffers)
-    (c : CrossingCounts) (place count : ℕ)
-    → IsAt decides link first now before after old new b t c place count
-    → count ≡ 18446744073709551615
-    → IsEndless before after
-at-most decides link first now before after old new b t c place count at most =
-    (at.frames, octets_held b, at.consumed, at.are, at.count_is ∙ most)
+-- a front part of such octets was written
+part-made : (l : Layouts) (odds : Odds) (before after old new : Option (List ℕ))
+    (packets : List (List ℕ)) (rest o : List ℕ)
+    → Consumes before after (all_octets packets ++ rest)
+    → AllByRecursion IsFrame packets
+    → Made (ComesFrom l odds packets) o
+    → AppendsPart old new o
+    → CarriesPart l odds before after old new
+part-made l odds before after old new packets rest o consumed are made part =
+    (packets, made.0, (rest, consumed, are), made.1, subst (AppendsPart old new) made.2 part)
 
 -- nothing was read and written
-pub none-carried : {D : Type 0} (decides : D → ℕ → Fate × D) (link : LossyLink) (first : D)
-    (a k : Option (List ℕ))
-    → CarriesPart decides link first a a k k
-none-carried decides link first a k = (
-  [],
-  [],
-  Consumes-nil a,
-  tt,
-  part_unchanged k
-      (all_octets (packets_carried link [])),
-)
+pub none-carried : (l : Layouts) (odds : Odds) (a k : Option (List ℕ)) → CarriesPart l odds a a k k
+none-carried l odds a k = ([], [], ([], Consumes-nil a, tt), tt, part_unchanged k [])
+
+-- ---- what was carried
+
+module _ {l : Layouts} {odds : Odds} {most : ℕ} {before after old new : Option (List ℕ)}
+    {b : PacketBuffer} {t : Turns} {dice : Dice} {count : ℕ}
+    (at : IsAt l odds most before after old new b t dice count) where
+  -- more was read, and what was written stayed
+  pub at-more : {later new2 : Option (List ℕ)} (b2 : PacketBuffer) (read : List ℕ)
+      → Goes b b2 after later read
+      → Keeps new new2
+      → IsAt l odds most before later old new2 b2 t dice count
+  at-more {later} {new2} b2 read goes same =
+      let seen = append_assoc (all_octets at.packets) (octets_held b) read
+      ∙ ap (λ (o : List ℕ). all_octets at.packets ++ o) (sym goes.added.behind) in
+      record {
+        packets = at.packets;
+        consumed = subst (Consumes before later) seen
+            (Consumes-trans before after later _ read at.consumed goes.added.consumed);
+        cutting = cutting-more b b2 after later read at.cutting goes;
+        are = at.are;
+        count_is = at.count_is;
+        written = at.written;
+        made = at.made;
+        wrote = Appends-kept old new new2 _ at.wrote same;
+        held = at.held;
+        turns_are = at.turns_are;
+        odds_are = at.odds_are;
+      }
+
+  -- the work stops behind packets that were carried
+  pub at-lost : CarriesPart l odds before after old new
+  at-lost =
+      part-made l odds before after old new at.packets (octets_held b) at.written at.consumed at.are
+      at.made (part_whole old new at.written at.wrote)
+
+  -- a read or a write failed, or octets were lost for which there was no memory
+  pub at-fault : (later new2 : Option (List ℕ)) (e : StreamFault) (b2 : PacketBuffer)
+      (had failed : Bool)
+      → FindsPassing (Err e) b b2 after later had failed
+      → Keeps new new2
+      → CarriesPart l odds before later old new2
+  at-fault later new2 e b2 had failed found same =
+      let lost = passing-lost e b b2 after later had failed found in
+      part-made l odds before later old new2 at.packets (octets_held b ++ lost.0) at.written
+      (subst (Consumes before later) (append_assoc (all_octets at.packets) (octets_held b) lost.0)
+      (Consumes-trans before after later _ lost.0 at.consumed lost.1))
+      at.are at.made (part_whole old new2 at.written (Appends-kept old new new2 _ at.wrote same))
+
+  -- all that is written at the end
+  made-last : Made (ComesFrom l odds at.packets) (at.written ++ concat (turn_octets t))
+  made-last =
+      let from = ComesFrom l odds at.packets in
+      made-append from at.written (concat (turn_octets t)) at.made
+      (made-concat from (turn_octets t) at.held)
+
+  -- no more packets come, and what was held is written
+  pub at-end : (new2 : Option (List ℕ))
+      → Appends new new2 (concat (turn_octets t))
+      → Carries l odds before after old new2
+  at-end new2 last = (
+    at.packets,
+    made-last.0,
+    (octets_held b, at.consumed, at.are),
+    made-last.1,
+    subst (Appends old new2) made-last.2
+        (Appends-trans old new new2 at.written (concat (turn_octets t)) at.wrote last),
+  )
+
+  -- the same, written in part
+  pub at-end-part : (new2 : Option (List ℕ))
+      → AppendsPart new new2 (concat (turn_octets t))
+      → CarriesPart l odds before after old new2
+  at-end-part new2 part =
+      part-made l odds before after old new2 at.packets (octets_held b)
+      (at.written ++ concat (turn_octets t)) at.consumed at.are made-last
+      (part_after old new new2 at.written (concat (turn_octets t)) at.wrote part)
+
+  -- so many packets came
+  pub at-most : count ≡ 18446744073709551615 → IsEndless before after
+  at-most most_is = (at.packets, (octets_held b, at.consumed, at.are), at.count_is ∙ most_is)
+
+  -- ---- one more packet
+
+  module _ {len : ℕ} {o : List ℕ} {w : Fate} (next : IsNext l odds b len o w) where
+    abbrev front : List ℕ
+    front = take len (octets_held b)
+
+    abbrev from : List ℕ → Type 0
+    from = ComesFrom l odds (at.packets ++ front ∷ [])
+
+    still-held : AllMade from (turn_octets t)
+    still-held = all_made-weaker (ComesFrom l odds at.packets) from (turn_octets t)
+        (comes-yet l odds at.packets front) at.held
+
+    all-made : Made from (at.written ++ carried_now w o (turn_octets t))
+    all-made =
+        made-append from at.written (carried_now w o (turn_octets t))
+        (made-weaker (ComesFrom l odds at.packets) from at.written
+        (comes-yet l odds at.packets front) at.made)
+        (made-now from w o (turn_octets t) (next-comes l odds at.packets b len o w next) still-held)
+
+    -- it was carried in part
+    pub at-part : (new2 : Option (List ℕ))
+        → AppendsPart new new2 (carried_now w o (turn_octets t))
+        → CarriesPart l odds before after old new2
+    at-part new2 part =
+        part-made l odds before after old new2 (at.packets ++ front ∷ [])
+        (drop len (octets_held b)) (at.written ++ carried_now w o (turn_octets t))
+        (subst (Consumes before after) (held-cut at.packets len (octets_held b)) at.consumed)
+        (all-more IsFrame at.packets front at.are next.front.frame) all-made
+        (part_after old new new2 at.written (carried_now w o (turn_octets t)) at.wrote part)
+
+    pub at-next : {new2 : Option (List ℕ)} (b2 : PacketBuffer) (t2 : Turns) (dice2 : Dice)
+        → Appends new new2 (carried_now w o (turn_octets t))
+        → turn_octets t2 ≡ carried_turns w o (turn_octets t)
+        → dice2.odds ≡ dice.odds
+        → octets_held b2 ≡ drop len (octets_held b)
+        → IsCutting b2
+        → IsAt l odds most before after old new2 b2 t2 dice2 (count + 1)
+    at-next {new2} b2 t2 dice2 wrote held odds_are rest cutting = record {
+      packets = at.packets ++ front ∷ [];
+      consumed = subst (Consumes before after)
+          (held-cut at.packets len (octets_held b)
+          ∙ ap (λ (r : List ℕ). all_octets (at.packets ++ front ∷ []) ++ r) (sym rest)) at.consumed;
+      cutting = cutting;
+      are = all-more IsFrame at.packets front at.are next.front.frame;
+      count_is = omega (arith, length-append {A = List ℕ} at.packets (front ∷ []), at.count_is);
+      written = at.written ++ carried_now w o (turn_octets t);
+      made = all-made;
+      wrote = Appends-trans old new new2 at.written (carried_now w o (turn_octets t)) at.wrote
+          wrote;
+      held = subst (AllMade from) (sym held)
+          (made-then from w o (turn_octets t) (next-comes l odds at.packets b len o w next)
+          still-held);
+      turns_are = ap (λ (os : List (List ℕ)). length os) held
+          ∙ length-carried w o (turn_octets t) ∙ at.turns_are;
+      odds_are = odds_are ∙ at.odds_are;
+    }

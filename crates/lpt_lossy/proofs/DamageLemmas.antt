@@ -17,8 +17,9 @@ use Rattle.lpt_packet.proofs.BoolLemmas.{and_left, and_right}
 use Rattle.lpt_packet.proofs.Bursts.{burst_shows_in_packet}
 use Rattle.lpt_packet.proofs.SightLemmas.{seen_sight, seen_verdict}
 use Rattle.lpt_carried.specs.declared.layouts.Layouts.{Layouts}
+use Rattle.lpt_lossy.specs.declared.dice.Odds.{Odds}
 use Rattle.lpt_lossy.specs.declared.fate.Burst.{Burst}
-use Rattle.lpt_lossy.specs.Bursts.{can_change, bits_changed, has_bits, is_read, is_there, is_within, shows_changes, IsDamage, IsKept}
+use Rattle.lpt_lossy.specs.Bursts.{can_change, bits_changed, has_bits, is_allowed, is_read, is_there, is_within, shows_changes, tailored_for, IsDamage, IsKept}
 
 -- ---- two octets in place of two
 
@@ -143,10 +144,10 @@ away at k h least most =
     (λ (e : k ≡ at). grind (arith, nat_tests), λ (e : k ≡ suc at). grind (arith, nat_tests))
 
 was-packet : (l : Layouts) (v : Option Sight) → shows_changes l v ≡ true
-    → (f : Fields) × (v ≡ Some (APacket f))
+    → (f : Fields) × (v ≡ Some (APacket f)) × ((tailored_for f.kind l).packets.has_checksum ≡ true)
 was-packet l None h = absurd cc
 was-packet l (Some IdlePacket) h = absurd cc
-was-packet l (Some (APacket f)) h = (f, refl)
+was-packet l (Some (APacket f)) h = (f, refl, h)
 
 differ-there : (u : Burst) (b : List ℕ)
     → (has_bits u.first || has_bits u.second) ≡ true
@@ -219,10 +220,11 @@ kept true u b there within =
 kept false u b there within = (first-kept u b there within, word-kept u b there within)
 
 -- so what is changed is damage
-pub damage : (l : Layouts) (u : Burst) (b : List ℕ)
+pub damage : (l : Layouts) (odds : Odds) (u : Burst) (b : List ℕ)
+    → is_allowed odds u.in_header ≡ true
     → can_change l u b ≡ true
-    → IsDamage u.in_header b (bits_changed u b)
-damage l u b h =
+    → IsDamage l odds b (bits_changed u b)
+damage l odds u b allowed h =
     let shows = shows_changes l (packet_seen b) in
     let bits = has_bits u.first || has_bits u.second in
     let apart = is_there u.in_header u.at in
@@ -235,11 +237,11 @@ damage l u b h =
     let packet = seen_sight b (APacket was.0) was.1 in
     let differ = differ-there u b (and_left bits apart front) within in
     record {
-      was = (was.0, packet);
+      was = (was.0, packet, was.2);
       none = λ g. burst_shows_in_packet b (bits_changed u b) was.0 g differ packet;
       differ = differ;
       as_many = ap (λ (o : List ℕ). length o) (changed-is u b) ∙ length-two u.at _ _ b within;
-      kept = kept u.in_header u b (and_right bits apart front) within;
+      kept = (u.in_header, allowed, kept u.in_header u b (and_right bits apart front) within);
     }
 
 -- what a reader answers says it of octets

@@ -1,10 +1,5 @@
 pub mod CarryLemmas
-pub mod CountLemmas
-pub mod CutLemmas
 pub mod DamageLemmas
 pub mod FrontLemmas
-pub mod LawLemmas
+pub mod MadeLemmas
 pub mod PartLemmas
-pub mod ThrowLemmas
-pub mod TurnLemmas
-pub mod WayLemmas

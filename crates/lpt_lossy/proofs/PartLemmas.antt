@@ -1,6 +1,5 @@
 -- Front parts of what is written, and what is held.
-use Rattle.std.proofs.Common.{◌≡◌, ◌∙◌, ap, sym, refl, subst, ℕ, zero, suc, ◌+◌, ◌<◌, ◌==◌, Bool, true, false, if◌then◌else◌, List, [], ◌∷◌, ◌++◌, length, map, take, drop, get_or, set, Option, Result, Ok, Err, append-nil, append_assoc, arith}
-use Rattle.std.specs.Prelude.{IfErr}
+use Rattle.std.proofs.Common.{◌≡◌, ◌∙◌, ap, sym, refl, subst, ℕ, zero, suc, ◌+◌, ◌<◌, ◌==◌, Bool, true, false, if◌then◌else◌, List, [], ◌∷◌, ◌++◌, length, map, take, drop, get_or, set, Option, append-nil, append_assoc, arith}
 use Rattle.std.specs.List.{concat}
 use Rattle.std.specs.Io.KnownBytes.{Appends}
 use Rattle.std.proofs.KnownBytes.{Appends-trans}
@@ -8,13 +7,6 @@ use Rattle.lpt_text.specs.Streams.{AppendsPart}
 use Rattle.lpt_text.proofs.StreamLemmas.{part_after, part_of_front}
 use Rattle.lpt_lossy.specs.declared.fate.Fate.{Fate}
 use Rattle.lpt_lossy.specs.TurnsInside.{behind_turn, handed_turns, passed_octets, octets_repeated}
-
--- ---- faults
-
--- what holds of any fault
-pub any-err : {A E : Type 0} (P : Type 0) (r : Result A E) → P → IfErr r (λ _. P)
-any-err P (Ok a) p = tt
-any-err P (Err e) p = p
 
 -- a front part of octets is one of them once or twice
 pub part-repeated : (twice : Bool) (a b : Option (List ℕ)) (o : List ℕ)

@@ -10,6 +10,7 @@ use Rattle.lpt_packet.specs.Numbers.{word_at}
 use Rattle.lpt_packet.specs.Packets.{Fields, Sight, IdlePacket, APacket, IsPacket, packet_seen}
 use Rattle.lpt_carried.specs.declared.layouts.Layouts.{Layouts}
 use Rattle.lpt_carried.specs.declared.layouts.Tailored.{Tailored}
+use Rattle.lpt_lossy.specs.declared.dice.Odds.{Odds}
 use Rattle.lpt_lossy.specs.declared.fate.Burst.{Burst}
 
 -- whether these are bits of an octet, and some of them
@@ -49,12 +50,6 @@ is_read l (Err e) = false
 abbrev pub can_change : Layouts → Burst → List ℕ → Bool
 can_change l u b = is_within u (length b) && shows_changes l (packet_seen b)
 
--- whether octets are a packet that isn't idle
-abbrev pub is_packet : Option Sight → Bool
-is_packet None = false
-is_packet (Some IdlePacket) = false
-is_packet (Some (APacket f)) = true
-
 -- octets with those bits changed
 abbrev pub bits_changed : Burst → List ℕ → List ℕ
 bits_changed u b =
@@ -62,16 +57,26 @@ bits_changed u b =
     ++ (bit_xor (slice_index b u.at) u.first ∷ bit_xor (slice_index b (u.at + 1)) u.second ∷ [])
     ++ drop (u.at + 2) b
 
+-- the octets, with changed bits or without
+abbrev pub with_burst : Option Burst → List ℕ → List ℕ
+with_burst None b = b
+with_burst (Some u) b = bits_changed u b
+
+-- whether these odds say that bits are ever changed, in primary headers or elsewhere
+abbrev pub is_allowed : Odds → (in_header : Bool) → Bool
+is_allowed odds true = nat_lt 0 odds.headers
+is_allowed odds false = nat_lt 0 odds.damage
+
 -- what of octets is as it was: all behind the header; or the first octet and the length field, by
 -- which a stream is cut
 abbrev pub IsKept : (in_header : Bool) → (b damaged : List ℕ) → Type 0
 IsKept true b d = drop 6 d ≡ drop 6 b
 IsKept false b d = (slice_index d 0 ≡ slice_index b 0) × (word_at d 4 ≡ word_at b 4)
 
--- octets that were a packet, and are none any more: as many
-pub record IsDamage (in_header : Bool) (b damaged : List ℕ) : Type 0 where
-  pub was : (f : Fields) × IsPacket b f
+-- octets that were a packet of a type that has a checksum, and are none any more: as many
+pub record IsDamage (l : Layouts) (odds : Odds) (b damaged : List ℕ) : Type 0 where
+  pub was : (f : Fields) × IsPacket b f × ((tailored_for f.kind l).packets.has_checksum ≡ true)
   pub none : (f : Fields) → ¬ IsPacket damaged f
   pub differ : DifferInBurst b damaged
   pub as_many : length damaged ≡ length b
-  pub kept : IsKept in_header b damaged
+  pub kept : (in_header : Bool) × (is_allowed odds in_header ≡ true) × IsKept in_header b damaged

@@ -1,9 +1,4 @@
 pub mod Bursts
-pub mod Carrying
-pub mod Counts
 pub mod Ends
 pub mod Frames
-pub mod Laws
-pub mod Throws
 pub mod TurnsInside
-pub mod Ways

@@ -1,18 +1,12 @@
 -- What is held of packets until it is written, turn by turn.
-use Rattle.std.specs.Prelude.{◌≡◌, ℕ, zero, suc, ◌==◌, Bool, true, false, if◌then◌else◌, List, [], ◌∷◌, ◌++◌, map}
-use Rattle.lpt_stream.specs.Streams.{all_octets}
+use Rattle.std.specs.Prelude.{ℕ, zero, suc, ◌==◌, Bool, true, false, if◌then◌else◌, List, [], ◌∷◌, ◌++◌, map}
 use Rattle.lpt_lossy.specs.declared.fate.Fate.{Fate}
-use Rattle.lpt_lossy.specs.declared.turns.Turns.{Turns as TurnBuffers}
-use Rattle.lpt_lossy.specs.Carrying.{Turns}
-use Rattle.lpt_lossy.specs.Ways.{with_burst}
+use Rattle.lpt_lossy.specs.declared.turns.Turns.{Turns}
+use Rattle.lpt_lossy.specs.Bursts.{with_burst}
 
 -- the octets that are held for each turn
-abbrev pub turn_octets : TurnBuffers → List (List ℕ)
+abbrev pub turn_octets : Turns → List (List ℕ)
 turn_octets t = map (λ v. v.items) t.turns.items
-
--- they are those of these packets
-pub record IsHeld (ts : Turns) (t : TurnBuffers) : Type 0 where
-  pub octets_are : turn_octets t ≡ map all_octets ts
 
 -- octets once or twice
 abbrev pub octets_repeated : (twice : Bool) → List ℕ → List ℕ

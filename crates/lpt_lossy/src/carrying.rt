@@ -1,11 +1,10 @@
 //! One packet, carried over the link.
 
-ghost use Rattle.std.specs.Prelude.{◌≡◌, ◌≤◌, ◌<◌, ◌⊎◌, ◌++◌, true, length, IfErr, IfSome, OnOk};
+ghost use Rattle.std.specs.Prelude.{◌≡◌, ◌<◌, ◌⊎◌, true, length, IfErr, IfSome, OnOk};
 ghost use Rattle.std.specs.Io.KnownBytes.{Appends};
 ghost use Rattle.lpt_text.specs.Streams.{AppendsPart, WriteEnds};
-ghost use Rattle.lpt_lossy.specs.Bursts.{is_within};
+ghost use Rattle.lpt_lossy.specs.Bursts.{is_within, with_burst};
 ghost use Rattle.lpt_lossy.specs.TurnsInside.{carried_now, carried_turns, handed_now, handed_turns, octets_repeated, turn_octets};
-ghost use Rattle.lpt_lossy.specs.Ways.{with_burst};
 
 use crate::Fate;
 use crate::burst::bits_changed;

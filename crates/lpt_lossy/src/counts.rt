@@ -1,9 +1,5 @@
 //! How many packets were lost, repeated, delayed, damaged and passed on as they were.
 
-ghost use Rattle.std.specs.Prelude.{◌≡◌, ◌+◌, ◌-◌, ◌^◌, min};
-ghost use Rattle.std.specs.Int.{from_bool};
-ghost use Rattle.lpt_lossy.specs.Counts.{is_passed};
-
 use crate::Fate;
 
 /// How many packets of a stream were lost, repeated and so on. One can be several of these. Each
@@ -33,15 +29,8 @@ pub struct LossyEnd {
 }
 
 impl CrossingCounts {
-    ghost use Rattle.std.specs.Prelude.{◌≡◌, ◌++◌, ◌∷◌, List, []};
-    ghost use Rattle.lpt_lossy.specs.declared.link.LossyLink.{LossyLink};
-    ghost use Rattle.lpt_lossy.specs.Counts.{IsCounted};
-    ghost use Rattle.lpt_lossy.specs.Ways.{way, Crossing};
-
     // The counts of no packets.
-    pub(crate) fn new() -> CrossingCounts
-        ensures { (link : LossyLink) → IsCounted link [] result }
-    {
+    pub(crate) fn new() -> CrossingCounts {
         CrossingCounts {
             lost: 0,
             repeated: 0,
@@ -52,10 +41,7 @@ impl CrossingCounts {
     }
 
     // Counts a packet of which this became.
-    pub(crate) fn add(&mut self, became: &Fate)
-        ensures { (link : LossyLink) (xs : List Crossing) (x : Crossing) → became.now ≡ way link x
-            → IsCounted link xs self.old → IsCounted link (xs ++ x ∷ []) self.new }
-    {
+    pub(crate) fn add(&mut self, became: &Fate) {
         self.lost = one_more(self.lost, became.is_lost);
         self.repeated = one_more(self.repeated, became.is_twice);
         self.delayed = one_more(self.delayed, became.later > 0);
@@ -65,15 +51,11 @@ impl CrossingCounts {
 }
 
 // Whether a packet of which this became was written once, as it came and as it was.
-fn is_passed(became: &Fate) -> bool
-    ensures { result ≡ is_passed became.now }
-{
+fn is_passed(became: &Fate) -> bool {
     !(became.is_lost || became.is_twice || became.later > 0 || became.burst.is_some())
 }
 
 // One more, if it is so.
-fn one_more(count: u64, is: bool) -> u64
-    ensures { result ≡ min (count + from_bool is) (2 ^ 64 - 1) }
-{
+fn one_more(count: u64, is: bool) -> u64 {
     count.saturating_add(u64::from(is))
 }

@@ -1,9 +1,9 @@
 //! Packets that are lost, repeated, delayed and damaged by chance.
 
-ghost use Rattle.std.specs.Prelude.{◌≡◌, ◌≤◌};
-ghost use Rattle.lpt_lossy.specs.Throws.{burst_said};
+ghost use Rattle.std.specs.Prelude.{◌≡◌, ◌≤◌, true, IfSome};
+ghost use Rattle.lpt_lossy.specs.Bursts.{is_allowed};
 
-use crate::fate::{Burst, Decider, Fate};
+use crate::fate::{Burst, Fate};
 use crate::words::{ALWAYS, befalls, burst_of, burst_of_header, up_to};
 use rand_core::SeedableRng;
 use rand_core::utils::NextWord;
@@ -34,26 +34,26 @@ pub struct Dice {
 }
 
 impl Dice {
-    ghost use Rattle.std.specs.Prelude.{◌≡◌};
-    ghost use Rattle.lpt_lossy.specs.Throws.{dice_seeded};
+    ghost use Rattle.std.specs.Prelude.{◌≡◌, ◌≤◌, true, IfSome};
+    ghost use Rattle.lpt_lossy.specs.Bursts.{is_allowed};
 
     /// Dice of these odds that were seeded by this number.
     pub fn new(odds: Odds, seed: u64) -> Dice
-        ensures { result ≡ dice_seeded odds seed }
+        ensures { result.odds ≡ odds }
     {
         Dice {
             odds,
             generator: Xoshiro256PlusPlus::seed_from_u64(seed),
         }
     }
-}
 
-impl Decider for Dice {
-    ghost use Rattle.lpt_lossy.specs.Throws.{throw};
-
-    ghost decides = { throw };
-
-    fn decide(&mut self, len: usize) -> Fate {
+    // What becomes of the next packet, which has so many octets, 7 or more.
+    pub(crate) fn decide(&mut self, len: usize) -> Fate
+        requires { 7 ≤ len }
+        ensures odds { self.new.odds ≡ self.old.odds }
+        ensures allowed { IfSome result.burst
+            (λ u. is_allowed self.old.odds u.in_header ≡ true) }
+    {
         let lose = self.generator.next_word();
         let repeat = self.generator.next_word();
         let later = self.generator.next_word();
@@ -72,7 +72,7 @@ impl Decider for Dice {
 // The bits to change in a packet of so many octets, if these words say that some change.
 fn burst_said(odds: &Odds, len: usize, damage: u64, bits: u64) -> Option<Burst>
     requires { 7 ≤ len }
-    ensures { result ≡ burst_said odds.now len damage bits }
+    ensures { IfSome result (λ u. is_allowed odds.now u.in_header ≡ true) }
 {
     if befalls(odds.headers, damage / ALWAYS) {
         return Some(burst_of_header(bits));

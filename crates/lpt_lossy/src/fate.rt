@@ -26,17 +26,3 @@ pub struct Burst {
     /// first octet and the length field stay as they are.
     pub in_header: bool,
 }
-
-/// Who decides what becomes of packets, one after the other.
-pub trait Decider {
-    ghost use Rattle.std.specs.Prelude.{◌≡◌, ◌≤◌, ℕ};
-    ghost use Rattle.lpt_lossy.specs.declared.fate.Fate.{Fate};
-
-    // What becomes of the next packet, which has so many octets, and who decides then.
-    ghost decides: { Self → ℕ → Fate × Self };
-
-    /// What becomes of the next packet, which has so many octets, 7 or more.
-    fn decide(&mut self, len: usize) -> Fate
-        requires { 7 ≤ len }
-        ensures { (result, self.new) ≡ decides self.old len };
-}

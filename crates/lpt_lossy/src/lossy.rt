@@ -1,17 +1,16 @@
 //! A stream of packets, carried over the link as it comes.
 
-ghost use Rattle.std.specs.Prelude.{◌≡◌, ◌==◌, if◌then◌else◌, length, None, Some, IfErr, IfOk, IsOk, OnOk};
+ghost use Rattle.std.specs.Prelude.{◌≡◌, IfErr, IsOk, OnOk};
 ghost use Rattle.std.specs.List.{concat};
 ghost use Rattle.std.specs.Io.KnownBytes.{Appends};
-ghost use Rattle.lpt_packet.specs.Numbers.{IsOctets};
 ghost use Rattle.lpt_text.specs.Streams.{AppendsPart, ReadEnds, WriteEnds};
-ghost use Rattle.lpt_lossy.specs.Ends.{CarriesAll, CarriesPart, IsEndless};
+ghost use Rattle.lpt_lossy.specs.Ends.{Carries, CarriesPart, IsEndless};
 ghost use Rattle.lpt_lossy.specs.Frames.{packet_in};
 ghost use Rattle.lpt_lossy.specs.TurnsInside.{turn_octets};
 
 use crate::carrying::carry;
 use crate::counts::{CrossingCounts, LossyEnd};
-use crate::fate::Decider;
+use crate::dice::Dice;
 use crate::link::LossyLink;
 use crate::settling::fate_settled;
 use crate::turns::Turns;
@@ -19,23 +18,28 @@ use lpt_stream::{Cut, Found, PacketBuffer, PieceKind};
 use lpt_text::{Sink, Source, StreamFault, flush_out};
 use std::alloc::Global;
 
-/// Reads the packets of a stream and writes them again, as the decider says and the link allows:
-/// some not, some twice, some later, and some with changed bits. At the end all that is held is
-/// written and passed on; so is what was written before each read.
+/// Reads the packets of a stream and writes them again, as the dice say and the link allows: some
+/// not, some twice, some later, and some with changed bits. At the end all that is held is written
+/// and passed on; so is what was written before each read.
+///
+/// Each packet that is written is one that was read or, if packets of its type have a checksum and
+/// the odds say that some are damaged, one that was and is none any more: it has as many octets,
+/// and the checksum shows that bits of it were changed. Either its first octet and its length field
+/// are as they were, or, if the odds say that headers are damaged, all behind its header is.
 ///
 /// Octets with which no packet begins end the run: those of another version than 0, and those at
 /// the stream's end that are fewer than their header says.
 ///
 /// Errors: `Read` if a read failed, or if 2^64 - 1 packets came; `Write` if a write
 /// failed; `Memory`. A front part of what would be written stays written.
-pub fn lossy_stream<S: Source, K: Sink, D: Decider>(
+pub fn lossy_stream<S: Source, K: Sink>(
     alloc: Global,
     link: &LossyLink,
-    decider: &mut D,
+    dice: &mut Dice,
     source: &mut S,
     out: &mut K,
 ) -> Result<LossyEnd, StreamFault>
-    ensures ends { IfOk result (λ end. CarriesAll D.decides link.now decider.old end
+    ensures ends { OnOk result (Carries link.now.layouts dice.old.odds
         (S.remaining source.old) (S.remaining source.new)
         (K.contents out.old) (K.contents out.new)) }
 
@@ -43,7 +47,7 @@ pub fn lossy_stream<S: Source, K: Sink, D: Decider>(
     ensures passed { IsOk result → K.flushed out.new ≡ K.contents out.new }
 
     // What a fault leaves.
-    ensures leaves { IfErr result (λ _. CarriesPart D.decides link.now decider.old
+    ensures leaves { IfErr result (λ _. CarriesPart link.now.layouts dice.old.odds
         (S.remaining source.old) (S.remaining source.new)
         (K.contents out.old) (K.contents out.new)) }
     ensures reader { ReadEnds (IsEndless (S.remaining source.old) (S.remaining source.new)) result
@@ -65,7 +69,7 @@ pub fn lossy_stream<S: Source, K: Sink, D: Decider>(
             }
         };
         let octets = &buffer.octets_held()[..found.len];
-        let way = fate_settled(decider.decide(found.len), link, octets);
+        let way = fate_settled(dice.decide(found.len), link, octets);
         carry(alloc, &way, octets, &mut turns, out)?;
         counts.add(&way);
         place = place.saturating_add(found.len as u64);
@@ -102,9 +106,6 @@ fn packet_in(front: Option<Found>) -> Option<Found>
 }
 
 // The place of octets that are left there, if some are.
-fn stray_at(place: u64, left: &[u8]) -> Option<u64>
-    ensures value { result ≡ (if length left.now == 0 then None else Some place) }
-    ensures octets { IsOctets left.now }
-{
+fn stray_at(place: u64, left: &[u8]) -> Option<u64> {
     if left.is_empty() { None } else { Some(place) }
 }

@@ -1,8 +1,7 @@
 //! What becomes of a packet in the end.
 
-ghost use Rattle.std.specs.Prelude.{◌≡◌, ◌≤◌, true, length, IfSome};
-ghost use Rattle.lpt_lossy.specs.Bursts.{is_within};
-ghost use Rattle.lpt_lossy.specs.Ways.{if_it_can, fate_settled};
+ghost use Rattle.std.specs.Prelude.{◌≡◌, ◌≤◌, true, IfSome, Some};
+ghost use Rattle.lpt_lossy.specs.Bursts.{can_change};
 
 use crate::burst::can_change;
 use crate::{Burst, Fate, Layouts, LossyLink};
@@ -10,10 +9,11 @@ use crate::{Burst, Fate, Layouts, LossyLink};
 // What becomes of these octets on a link: nothing else becomes of what is lost, none are written
 // later than they may be, and bits are changed only if that shows.
 pub(crate) fn fate_settled(fate: Fate, link: &LossyLink, octets: &[u8]) -> Fate
-    ensures way { result ≡ fate_settled link.now fate octets.now }
     ensures most { result.later ≤ link.now.most_later }
     ensures lost { result.is_lost ≡ true → result.later ≡ 0 }
-    ensures burst { IfSome result.burst (λ u. is_within u (length octets.now) ≡ true) }
+    ensures decided { IfSome result.burst (λ u. fate.burst ≡ Some u) }
+    ensures shows { IfSome result.burst
+        (λ u. can_change link.now.layouts u octets.now ≡ true) }
 {
     if fate.is_lost {
         return Fate {
@@ -33,8 +33,8 @@ pub(crate) fn fate_settled(fate: Fate, link: &LossyLink, octets: &[u8]) -> Fate
 
 // A burst that can change these octets.
 fn if_it_can(layouts: &Layouts, burst: Option<Burst>, octets: &[u8]) -> Option<Burst>
-    ensures value { result ≡ if_it_can layouts.now burst octets.now }
-    ensures within { IfSome result (λ u. is_within u (length octets.now) ≡ true) }
+    ensures decided { IfSome result (λ u. burst ≡ Some u) }
+    ensures shows { IfSome result (λ u. can_change layouts.now u octets.now ≡ true) }
 {
     match burst {
         Some(burst) => if can_change(layouts, &burst, octets) {

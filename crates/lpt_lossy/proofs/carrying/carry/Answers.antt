@@ -3,9 +3,10 @@ use Rattle.std.proofs.Common.{◌≡◌, ◌∙◌, ap, subst, List, ℕ, length
 use Rattle.std.proofs.lemmas.Result.{IfErr-weaker}
 use Rattle.lpt_text.specs.Streams.{AppendsPart}
 use Rattle.lpt_text.proofs.StreamLemmas.{part_after, part_of_front}
+use Rattle.lpt_lossy.specs.Bursts.{with_burst}
 use Rattle.lpt_lossy.specs.TurnsInside.{carried_now, first_octets, handed_now, handed_turns, turn_octets}
-use Rattle.lpt_lossy.specs.Ways.{with_burst}
-use Rattle.lpt_lossy.proofs.PartLemmas.{any-err, length-handed}
+use Rattle.lpt_stream.proofs.EndLemmas.{any-err}
+use Rattle.lpt_lossy.proofs.PartLemmas.{length-handed}
 use Rattle.lpt_lossy.proofs.carrying.carry.Goals as goal
 
 pub returns-in_err-hand_on_changed-clause-part : goal.returns-in_err-hand_on_changed-clause-part

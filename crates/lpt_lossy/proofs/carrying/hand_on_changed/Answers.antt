@@ -3,9 +3,9 @@ use Rattle.std.proofs.Common.{◌≡◌, ◌∙◌, ap, sym, subst, List, ℕ}
 use Rattle.std.proofs.lemmas.Result.{IfErr-weaker}
 use Rattle.lpt_text.specs.Streams.{AppendsPart}
 use Rattle.lpt_text.proofs.StreamLemmas.{part_unchanged}
+use Rattle.lpt_lossy.specs.Bursts.{with_burst}
 use Rattle.lpt_lossy.specs.TurnsInside.{handed_now}
-use Rattle.lpt_lossy.specs.Ways.{with_burst}
-use Rattle.lpt_lossy.proofs.PartLemmas.{any-err}
+use Rattle.lpt_stream.proofs.EndLemmas.{any-err}
 use Rattle.lpt_lossy.proofs.carrying.hand_on_changed.Goals as goal
 
 pub returns-in_err-changed-in-Some-clause-part : goal.returns-in_err-changed-in-Some-clause-part

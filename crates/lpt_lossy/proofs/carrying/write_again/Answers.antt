@@ -4,7 +4,8 @@ use Rattle.std.proofs.Common.{Bool, subst, sym}
 use Rattle.lpt_text.specs.Streams.{AppendsPart}
 use Rattle.lpt_text.proofs.StreamLemmas.{part_after}
 use Rattle.lpt_lossy.specs.TurnsInside.{octets_repeated}
-use Rattle.lpt_lossy.proofs.PartLemmas.{any-err, part-repeated}
+use Rattle.lpt_stream.proofs.EndLemmas.{any-err}
+use Rattle.lpt_lossy.proofs.PartLemmas.{part-repeated}
 use Rattle.lpt_lossy.proofs.carrying.write_again.Goals as goal
 
 pub returns-in_err-write_out-clause-part : goal.returns-in_err-write_out-clause-part

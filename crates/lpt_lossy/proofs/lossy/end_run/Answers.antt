@@ -4,7 +4,7 @@ use Rattle.std.proofs.KnownBytes.{Appends-kept}
 use Rattle.lpt_text.specs.Streams.{AppendsPart}
 use Rattle.lpt_text.proofs.StreamLemmas.{part_whole}
 use Rattle.lpt_lossy.specs.TurnsInside.{turn_octets}
-use Rattle.lpt_lossy.proofs.PartLemmas.{any-err}
+use Rattle.lpt_stream.proofs.EndLemmas.{any-err}
 use Rattle.lpt_lossy.proofs.lossy.end_run.Goals as goal
 
 pub returns-clause-part : goal.returns-clause-part

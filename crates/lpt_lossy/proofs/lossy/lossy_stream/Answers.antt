@@ -1,41 +1,26 @@
 -- Packet after packet, until none is left.
-use Rattle.std.proofs.Common.{◌≡◌, ◌∙◌, ◌≤◌, List, ℕ, Some, None, ◌==◌, if◌then◌else◌, ap, inr, sym, subst, length, length-take-le, take, refl, arith}
-use Rattle.std.proofs.KnownBytes.{Consumes-nil}
+use Rattle.std.proofs.Common.{◌≡◌, ◌∙◌, ◌≤◌, inr, sym, subst, length, length-take-le, refl, arith}
 use Rattle.std.proofs.lemmas.Result.{err_from_is_err_and}
-use Rattle.lpt_packet.specs.Numbers.{IsOctets}
-use Rattle.lpt_stream.specs.Streams.{all_octets}
-use Rattle.lpt_stream.specs.Buffers.{octets_held}
-use Rattle.lpt_stream.proofs.EndLemmas.{passing-reader, reader-after}
+use Rattle.lpt_stream.proofs.EndLemmas.{any-err, passing-reader, reader-after}
 use Rattle.lpt_lossy.specs.Ends.{CarriesPart}
-use Rattle.lpt_lossy.specs.Ways.{crossings}
-use Rattle.lpt_lossy.proofs.CarryLemmas.{at-end, at-end-part, at-fault, at-lost, at-more, at-most, at-next, at-none, at-part, none-carried}
-use Rattle.lpt_lossy.proofs.FrontLemmas.{cutting-next, cutting-none, found-goes, front-none, front-packet, none-ends}
-use Rattle.lpt_lossy.proofs.PartLemmas.{any-err}
-use Rattle.lpt_lossy.proofs.TurnLemmas.{turns_are}
+use Rattle.lpt_lossy.proofs.CarryLemmas.{at-end, at-end-part, at-fault, at-lost, at-more, at-most, at-next, at-none, at-part, next-is, none-carried}
+use Rattle.lpt_lossy.proofs.FrontLemmas.{cutting-next, found-goes, front-packet}
 use Rattle.lpt_lossy.proofs.lossy.lossy_stream.Goals as goal
 
 pub returns-in_err-turns-clause-leaves : goal.returns-in_err-turns-clause-leaves
 returns-in_err-turns-clause-leaves g c =
-    any-err (CarriesPart g.D.Decider.decides c.args.link.now c.args.decider.now
-    (g.S.Source.remaining c.args.source.now)
-    (g.S.Source.remaining c.args.source.now) (g.K.Sink.contents c.args.out.now)
-    (g.K.Sink.contents c.args.out.now))
-    c.from_residual.result
-    (none-carried g.D.Decider.decides c.args.link.now c.args.decider.now
-    (g.S.Source.remaining c.args.source.now)
-    (g.K.Sink.contents c.args.out.now))
+    let a = g.S.Source.remaining c.args.source.now in
+    let k = g.K.Sink.contents c.args.out.now in
+    any-err (CarriesPart c.args.link.now.layouts c.args.dice.now.odds a a k k)
+    c.from_residual.result (none-carried c.args.link.now.layouts c.args.dice.now.odds a k)
 
 pub loop-init : goal.loop-init
 loop-init g c = record {
-  at = at-none g.D.Decider.decides c.args.link.now c.args.decider.now
-      (g.S.Source.remaining c.args.source.now)
-      (g.K.Sink.contents c.args.out.now) c.new-buffer.result c.in_ok-turns.turns
-      c.new-counts.result
-      (Consumes-nil (g.S.Source.remaining c.args.source.now)) c.new-buffer.ensures.held
-      (cutting-none c.new-buffer.result (g.S.Source.remaining c.args.source.now)
-      c.new-buffer.ensures.cut c.new-buffer.ensures.step c.new-buffer.ensures.end)
-      c.in_ok-turns.ensures
-      c.new-counts.ensures;
+  at = at-none c.args.link.now.layouts c.args.link.now.most_later
+      (g.S.Source.remaining c.args.source.now) (g.K.Sink.contents c.args.out.now)
+      c.new-buffer.result c.in_ok-turns.turns c.args.dice.now c.new-buffer.ensures.held
+      record { cut_is = c.new-buffer.ensures.cut; step_is = c.new-buffer.ensures.step }
+      c.in_ok-turns.ensures;
   reader = refl;
   writer = refl;
 }
@@ -43,14 +28,12 @@ loop-init g c = record {
 -- a read failed, what was kept back couldn't be passed on, or there was no memory
 pub returns-in_err-front-clause-leaves : goal.returns-in_err-front-clause-leaves
 returns-in_err-front-clause-leaves g c =
-    any-err (CarriesPart g.D.Decider.decides c.args.link.now c.args.decider.now
+    any-err (CarriesPart c.args.link.now.layouts c.args.dice.now.odds
     (g.S.Source.remaining c.args.source.now) (g.S.Source.remaining c.find_piece_passing.new.source)
     (g.K.Sink.contents c.args.out.now) (g.K.Sink.contents c.find_piece_passing.new.out))
     c.from_residual-in_err-front.result
-    (at-fault g.D.Decider.decides c.args.link.now c.args.decider.now c.loop.decider
-    c.in_err-front.field-0.0 _ _ _ _ _ _ c.loop.buffer c.find_piece_passing.new.self c.loop.turns
-    c.loop.counts c.loop.place c.loop.counter _ _ c.loop.invariant.at c.in_err-front.ensures.finds
-    c.in_err-front.ensures.same)
+    (at-fault c.loop.invariant.at _ _ c.in_err-front.field-0.0 c.find_piece_passing.new.self _ _
+    c.in_err-front.ensures.finds c.in_err-front.ensures.same)
 
 pub returns-in_err-front-clause-reader : goal.returns-in_err-front-clause-reader
 returns-in_err-front-clause-reader g c =
@@ -64,54 +47,22 @@ returns-in_err-front-clause-reader g c =
 -- no more packets come
 pub returns-in_err-end_run-in-None-clause-leaves : goal.returns-in_err-end_run-in-None-clause-leaves
 returns-in_err-end_run-in-None-clause-leaves g c =
-    let first = c.args.decider.now in
-    let a = g.S.Source.remaining c.args.source.now in
-    let mid = g.S.Source.remaining c.loop.source in
-    let after = g.S.Source.remaining c.find_piece_passing.new.source in
-    let k0 = g.K.Sink.contents c.args.out.now in
-    let k1 = g.K.Sink.contents c.loop.out in
-    let k2 = g.K.Sink.contents c.find_piece_passing.new.out in
-    let k3 = g.K.Sink.contents c.end_run.new.out in
-    let b = c.loop.buffer in
     let b2 = c.find_piece_passing.new.self in
-    let found = found-goes c.in_ok-front.front b b2 mid after _ _ c.in_ok-front.ensures.finds in
-    any-err (CarriesPart g.D.Decider.decides c.args.link.now first a after k0 k3)
+    let found = found-goes c.in_ok-front.front c.loop.buffer b2 _ _ _ _
+    c.in_ok-front.ensures.finds in
+    any-err (CarriesPart c.args.link.now.layouts c.args.dice.now.odds
+    (g.S.Source.remaining c.args.source.now) (g.S.Source.remaining c.find_piece_passing.new.source)
+    (g.K.Sink.contents c.args.out.now) (g.K.Sink.contents c.end_run.new.out))
     c.from_residual-in_err-end_run-in-None.result
-    (at-end-part g.D.Decider.decides c.args.link.now first c.loop.decider a after k0 k2 k3 b2
-    c.loop.turns c.loop.counts c.loop.place c.loop.counter
-    (at-more g.D.Decider.decides c.args.link.now first c.loop.decider a mid after k0 k1 k2 b b2
-    c.loop.turns c.loop.counts c.loop.place c.loop.counter found.0 c.loop.invariant.at found.1
-    c.in_ok-front.ensures.same)
+    (at-end-part (at-more c.loop.invariant.at b2 found.0 found.1 c.in_ok-front.ensures.same) _
     c.in_err-end_run-in-None.ensures.part)
 
 pub returns-in-None-clause-ends : goal.returns-in-None-clause-ends
 returns-in-None-clause-ends g c =
-    let first = c.args.decider.now in
-    let a = g.S.Source.remaining c.args.source.now in
-    let mid = g.S.Source.remaining c.loop.source in
-    let after = g.S.Source.remaining c.find_piece_passing.new.source in
-    let k0 = g.K.Sink.contents c.args.out.now in
-    let k1 = g.K.Sink.contents c.loop.out in
-    let k2 = g.K.Sink.contents c.find_piece_passing.new.out in
-    let k3 = g.K.Sink.contents c.end_run.new.out in
-    let b = c.loop.buffer in
     let b2 = c.find_piece_passing.new.self in
-    let found = found-goes c.in_ok-front.front b b2 mid after _ _ c.in_ok-front.ensures.finds in
-    let at = at-more g.D.Decider.decides c.args.link.now first c.loop.decider a mid after k0 k1
-    k2 b b2 c.loop.turns
-    c.loop.counts c.loop.place c.loop.counter found.0 c.loop.invariant.at found.1
-    c.in_ok-front.ensures.same in
-    at-end g.D.Decider.decides c.args.link.now first c.loop.decider a after k0 k2 k3 b2
-    c.loop.turns c.loop.counts
-    c.loop.place c.loop.counter c.stray_at-stray.result at
-    (none-ends (octets_held b2) (length (all_octets at.frames)) c.loop.place c.stray_at-stray.result
-    after
-    at.place_is
-    (c.stray_at-stray.ensures.value
-    ∙ ap (λ (o : List ℕ). if length o == 0 then None else Some c.loop.place) c.octets_held.ensures)
-    (front-none c.in_ok-front.front b b2 mid after _ _ (sym c.in-None.ensures)
-    c.in_ok-front.ensures.finds c.loop.invariant.at.cutting
-    (subst IsOctets c.octets_held.ensures c.stray_at-stray.ensures.octets)))
+    let found = found-goes c.in_ok-front.front c.loop.buffer b2 _ _ _ _
+    c.in_ok-front.ensures.finds in
+    at-end (at-more c.loop.invariant.at b2 found.0 found.1 c.in_ok-front.ensures.same) _
     c.in_ok-end_run-in-None.ensures.ok
 
 -- a packet
@@ -134,84 +85,45 @@ decide-requires g c =
 
 pub carry-requires-clause-turn : goal.carry-requires-clause-turn
 carry-requires-clause-turn g c =
-    omega (
-      arith,
-      turns_are c.args.link.now (crossings g.D.Decider.decides c.args.decider.now
-          c.loop.invariant.at.frames) c.loop.turns
-          c.loop.invariant.at.holds,
-      c.fate_settled-way.ensures.most,
-    )
+    omega (arith, c.loop.invariant.at.turns_are, c.fate_settled-way.ensures.most)
 
 pub returns-in_err-carry-clause-leaves : goal.returns-in_err-carry-clause-leaves
 returns-in_err-carry-clause-leaves g c =
-    let first = c.args.decider.now in
-    let a = g.S.Source.remaining c.args.source.now in
-    let mid = g.S.Source.remaining c.loop.source in
-    let after = g.S.Source.remaining c.find_piece_passing.new.source in
-    let k0 = g.K.Sink.contents c.args.out.now in
-    let k1 = g.K.Sink.contents c.loop.out in
-    let k2 = g.K.Sink.contents c.find_piece_passing.new.out in
-    let k3 = g.K.Sink.contents c.carry.new.out in
-    let b = c.loop.buffer in
     let b2 = c.find_piece_passing.new.self in
-    let f = c.in-Some.found in
-    let len = f.len in
-    let found = found-goes c.in_ok-front.front b b2 mid after _ _ c.in_ok-front.ensures.finds in
-    let at = at-more g.D.Decider.decides c.args.link.now first c.loop.decider a mid after k0 k1
-    k2 b b2 c.loop.turns
-    c.loop.counts c.loop.place c.loop.counter found.0 c.loop.invariant.at found.1
-    c.in_ok-front.ensures.same in
-    let front = front-packet c.in_ok-front.front f b b2 mid after _ _ (sym c.in-Some.ensures)
-    c.in_ok-front.ensures.finds c.loop.invariant.at.cutting in
-    any-err (CarriesPart g.D.Decider.decides c.args.link.now first a after k0 k3)
+    let found = found-goes c.in_ok-front.front c.loop.buffer b2 _ _ _ _
+    c.in_ok-front.ensures.finds in
+    let front = front-packet c.in_ok-front.front c.in-Some.found c.loop.buffer b2 _ _ _ _
+    (sym c.in-Some.ensures) c.in_ok-front.ensures.finds c.loop.invariant.at.cutting in
+    let next = next-is c.args.link.now.layouts c.args.dice.now.odds c.loop.dice.odds b2
+    c.in-Some.found.len c.octets_held-in-loop.result.now c.decide.result.burst c.fate_settled-way.result front.1
+    c.octets_held-in-loop.ensures c.loop.invariant.at.odds_are c.decide.ensures.allowed
+    c.fate_settled-way.ensures.decided c.fate_settled-way.ensures.shows in
+    any-err (CarriesPart c.args.link.now.layouts c.args.dice.now.odds
+    (g.S.Source.remaining c.args.source.now) (g.S.Source.remaining c.find_piece_passing.new.source)
+    (g.K.Sink.contents c.args.out.now) (g.K.Sink.contents c.carry.new.out))
     c.from_residual-in_err-carry.result
-    (at-part g.D.Decider.decides c.args.link.now first c.loop.decider c.decide.new.self a after
-    k0 k2 k3 b2 c.loop.turns
-    c.loop.counts c.loop.place c.loop.counter len c.decide.result
-    (take len c.octets_held-in-loop.result.now)
-    c.fate_settled-way.result
-    at front.1 (ap (take len) c.octets_held-in-loop.ensures) c.decide.ensures
-    c.fate_settled-way.ensures.way c.in_err-carry.ensures.part)
+    (at-part (at-more c.loop.invariant.at b2 found.0 found.1 c.in_ok-front.ensures.same) next _
+    c.in_err-carry.ensures.part)
 
 pub loop-preserved : goal.loop-preserved
 loop-preserved g c =
-    let first = c.args.decider.now in
-    let a = g.S.Source.remaining c.args.source.now in
-    let mid = g.S.Source.remaining c.loop.source in
-    let after = g.S.Source.remaining c.find_piece_passing.new.source in
-    let k0 = g.K.Sink.contents c.args.out.now in
-    let k1 = g.K.Sink.contents c.loop.out in
-    let k2 = g.K.Sink.contents c.find_piece_passing.new.out in
-    let k3 = g.K.Sink.contents c.carry.new.out in
-    let b = c.loop.buffer in
     let b2 = c.find_piece_passing.new.self in
     let f = c.in-Some.found in
-    let len = f.len in
-    let o = take len c.octets_held-in-loop.result.now in
-    let found = found-goes c.in_ok-front.front b b2 mid after _ _ c.in_ok-front.ensures.finds in
-    let at = at-more g.D.Decider.decides c.args.link.now first c.loop.decider a mid after k0 k1
-    k2 b b2 c.loop.turns
-    c.loop.counts c.loop.place c.loop.counter found.0 c.loop.invariant.at found.1
-    c.in_ok-front.ensures.same in
-    let front = front-packet c.in_ok-front.front f b b2 mid after _ _ (sym c.in-Some.ensures)
+    let found = found-goes c.in_ok-front.front c.loop.buffer b2 _ _ _ _
+    c.in_ok-front.ensures.finds in
+    let at = at-more c.loop.invariant.at b2 found.0 found.1 c.in_ok-front.ensures.same in
+    let front = front-packet c.in_ok-front.front f c.loop.buffer b2 _ _ _ _ (sym c.in-Some.ensures)
     c.in_ok-front.ensures.finds c.loop.invariant.at.cutting in
+    let next = next-is c.args.link.now.layouts c.args.dice.now.odds c.loop.dice.odds b2 f.len
+    c.octets_held-in-loop.result.now c.decide.result.burst c.fate_settled-way.result front.1
+    c.octets_held-in-loop.ensures c.loop.invariant.at.odds_are c.decide.ensures.allowed
+    c.fate_settled-way.ensures.decided c.fate_settled-way.ensures.shows in
     record {
-      at = at-next g.D.Decider.decides c.args.link.now first c.loop.decider c.decide.new.self a
-          after k0 k2 k3 b2
-          c.skip.new.self c.loop.turns c.carry.new.turns c.loop.counts c.add.new.self c.loop.place
-          c.saturating_add-place.result c.loop.counter len c.decide.result o
-          c.fate_settled-way.result at
-          record {
-            front = front.1;
-            octets_are = ap (take len) c.octets_held-in-loop.ensures;
-            fate_is = c.decide.ensures;
-            way_is = c.fate_settled-way.ensures.way;
-            written = c.in_ok-carry.ensures.ok;
-            held_is = c.in_ok-carry.ensures.turns;
-            added = c.add.ensures;
-          } c.saturating_add-place.ensures c.skip.ensures.held
-          (cutting-next b2 c.skip.new.self after f at.cutting front.0 c.skip.ensures.cut
-          c.skip.ensures.step c.skip.ensures.end);
+      at = at-next at next c.skip.new.self c.carry.new.turns c.decide.new.self
+          c.in_ok-carry.ensures.ok c.in_ok-carry.ensures.turns c.decide.ensures.odds
+          c.skip.ensures.held
+          (cutting-next b2 c.skip.new.self f at.cutting front.0 c.skip.ensures.cut
+          c.skip.ensures.step);
       reader = found.2 ∙ c.loop.invariant.reader;
       writer = c.in_ok-carry.ensures.writer ∙ (c.in_ok-front.ensures.writer
           ∙ c.loop.invariant.writer);
@@ -219,20 +131,10 @@ loop-preserved g c =
 
 -- so many packets came
 pub returns-clause-leaves : goal.returns-clause-leaves
-returns-clause-leaves g c =
-    at-lost g.D.Decider.decides c.args.link.now c.args.decider.now c.loop.decider
-    (g.S.Source.remaining c.args.source.now)
-    (g.S.Source.remaining c.loop.source) (g.K.Sink.contents c.args.out.now)
-    (g.K.Sink.contents c.loop.out) c.loop.buffer
-    c.loop.turns c.loop.counts c.loop.place c.loop.counter c.loop.invariant.at
+returns-clause-leaves g c = at-lost c.loop.invariant.at
 
 pub returns-clause-reader : goal.returns-clause-reader
 returns-clause-reader g c =
     let most : c.loop.counter ≡ 18446744073709551615 =
     grind (arith, c.loop.auto.counter-end, c.loop-test.false) in
-    inr (at-most g.D.Decider.decides c.args.link.now c.args.decider.now c.loop.decider
-    (g.S.Source.remaining c.args.source.now) (g.S.Source.remaining c.loop.source)
-    (g.K.Sink.contents c.args.out.now)
-    (g.K.Sink.contents c.loop.out) c.loop.buffer c.loop.turns c.loop.counts c.loop.place
-    c.loop.counter
-    c.loop.invariant.at most)
+    inr (at-most c.loop.invariant.at most)

@@ -1,5 +1,5 @@
 -- One empty turn more.
-use Rattle.lpt_lossy.proofs.TurnLemmas.{turn-more}
+use Rattle.lpt_lossy.proofs.MadeLemmas.{turn-more}
 use Rattle.lpt_lossy.proofs.turns.Turns.new.Goals as goal
 
 pub loop-preserved : goal.loop-preserved

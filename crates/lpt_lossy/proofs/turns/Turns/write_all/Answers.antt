@@ -3,7 +3,8 @@ use Rattle.std.proofs.Common.{◌∙◌}
 use Rattle.std.specs.List.{concat}
 use Rattle.lpt_text.specs.Streams.{AppendsPart}
 use Rattle.lpt_lossy.specs.TurnsInside.{turn_octets}
-use Rattle.lpt_lossy.proofs.PartLemmas.{any-err, turn-all, turn-part}
+use Rattle.lpt_stream.proofs.EndLemmas.{any-err}
+use Rattle.lpt_lossy.proofs.PartLemmas.{turn-all, turn-part}
 use Rattle.lpt_lossy.proofs.turns.Turns.write_all.Goals as goal
 
 pub returns-in_err-write_out-clause-part : goal.returns-in_err-write_out-clause-part
