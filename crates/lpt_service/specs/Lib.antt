@@ -1,0 +1,5 @@
+pub mod Promise
+pub mod Served
+pub mod Service
+pub mod Worked
+pub mod WrongServices
