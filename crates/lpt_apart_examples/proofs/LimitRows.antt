@@ -1,10 +1,10 @@
 -- The run in which a clock is set back, limits change and a reception is given up, computed by the
 -- definitions.
-use Rattle.std.proofs.Common.{◌≡◌, ◌∙◌, ap, sym, subst, refl, ℕ, zero, suc, ◌-◌, ◌&&◌, nat_le, true, List, [], ◌∷◌, ◌++◌, length, map as mapped, Option, Some, None, reverse, arith}
+use Rattle.std.proofs.Common.{◌≡◌, ◌∙◌, ap, sym, subst, refl, ℕ, nat_le, true, List, [], ◌∷◌, ◌++◌, length, Some, reverse, arith}
 use Rattle.std.specs.FinMap as maps
 use Rattle.std.specs.FinMap.{same_map}
 use Rattle.std.specs.Option.{option_map, option_map_or}
-use Rattle.lpt_packet.specs.declared.direction.Direction.TheVariants.{Up, Down}
+use Rattle.lpt_packet.specs.declared.direction.Direction.TheVariants.{Up}
 use Rattle.lpt_packet.specs.Checksums.{checksum, octets_in, shift_all}
 use Rattle.lpt_packet.specs.Names.{Name, name_cmp}
 use Rattle.lpt_packet.specs.Packets.{packet_seen, spelling}
@@ -13,22 +13,19 @@ use Rattle.lpt_pus.specs.Commands.{tc_field, tc_verdict}
 use Rattle.lpt_pus.specs.Telemetry.{tm_field, tm_verdict}
 use Rattle.lpt_part.specs.Aborts.{abort_body, abort_verdict}
 use Rattle.lpt_part.specs.Parts.{body_of, part_verdict}
-use Rattle.lpt_memory.specs.Memories.{Contents}
 use Rattle.lpt_table.specs.SettingBack.{earlier, set_back, reaches_back}
 use Rattle.lpt_table.specs.Tables.{Entries, TableEntry}
 use Rattle.lpt_table.specs.Walking.{least_last}
 use Rattle.lpt_table.proofs.BackLemmas.{get-set_back}
 use Rattle.lpt_events.specs.Arrivals.{arrival}
 use Rattle.lpt_events.specs.Configs.{IsConfig}
-use Rattle.lpt_events.specs.declared.config.Config.{Config}
 use Rattle.lpt_events.specs.declared.lane.Lane.TheVariants.{S1, S2}
 use Rattle.lpt_events.specs.declared.side.Side.TheVariants.{Craft}
-use Rattle.lpt_acts.specs.Acts.{Act, Open, Send, Take, Deliver, Tick, Expire, On, Back, Within}
+use Rattle.lpt_acts.specs.Acts.{Act, Open, Send, Take, Deliver, Tick, Expire, Within}
 use Rattle.lpt_journal.specs.Replies.{history_after}
 use Rattle.lpt_apart.specs.Ends.{Ends}
-use Rattle.lpt_apart.specs.Moves.{Pair, Move, Do, no_pair, pair_after, CanMove, came_to, CanMoveAll}
+use Rattle.lpt_apart.specs.Moves.{Pair, Move, no_pair, pair_after, CanMove, came_to, CanMoveAll}
 use Rattle.lpt_apart.specs.Plays.{AllForward, steps_of, moves_of}
-use Rattle.lpt_apart.specs.Steps as steps
 use Rattle.lpt_apart.specs.Told.{log_told}
 use Rattle.lpt_apart.proofs.Freely.{steps_are_moves}
 use Rattle.lpt_apart.proofs.Played.{worlds_are_ends}
@@ -47,7 +44,7 @@ set_back_nothing n =
     ∙ ap (option_map (earlier n)) (maps.get-empty {X = TableEntry} name_cmp q)
     ∙ sym (maps.get-empty {X = TableEntry} name_cmp q))
 
-none_of : {A : Type 0} (xs : List A) → length xs ≡ 0 → xs ≡ []
+pub none_of : {A : Type 0} (xs : List A) → length xs ≡ 0 → xs ≡ []
 none_of [] is = refl
 none_of (x ∷ xs) is = absurd (omega (arith, is))
 

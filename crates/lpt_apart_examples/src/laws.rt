@@ -9,11 +9,14 @@ ghost use Rattle.lpt_part.specs.declared.mode.Mode.TheVariants.{Strict};
 ghost use Rattle.lpt_state.specs.declared.fault.StateFault.TheVariants as fault;
 ghost use Rattle.lpt_state.specs.Spellings.{spelling};
 ghost use Rattle.lpt_state.specs.Verdicts.{verdict};
+ghost use Rattle.lpt_apart.specs.Deeds.{after_deeds, CanDoAll};
 ghost use Rattle.lpt_apart.specs.Moves.{came_to, CanMoveAll};
 ghost use Rattle.lpt_apart.specs.Whole.{came_in, CameWhole};
 ghost use Rattle.lpt_journal_examples.specs.Passes.{own, m9, usual, usual_memories, loaded_memories};
 ghost use Rattle.lpt_apart_examples.specs.Late.{before_late, late_acts, late_moves, start, FreesTooEarly};
 ghost use Rattle.lpt_apart_examples.specs.Limits.{clock_moves, narrow_log, narrow_moves};
+ghost use Rattle.lpt_apart_examples.specs.Reports.{report_log, report_moves};
+ghost use Rattle.lpt_apart_examples.specs.Resumed.{resumed_deeds, resumed_log, unwritten};
 ghost use Rattle.lpt_apart_examples.specs.Runs.{worked_moves, worked_log};
 ghost use Rattle.lpt_apart_examples.specs.States.{config, mixed_state, mixed_octets, names_sent};
 ghost use Rattle.lpt_apart.specs.Freeing.{with_acts, CanActAll};
@@ -56,6 +59,26 @@ pub fn limits_can_be()
     ensures can { CanMoveAll usual usual_memories (reverse narrow_moves ++ reverse clock_moves) }
     ensures log { (came_to usual usual_memories
         (reverse narrow_moves ++ reverse clock_moves)).ends.log ≡ reverse narrow_log }
+{}
+
+/// Ground asks for a dump, which is executed. Its report is too long for a packet, so it is opened
+/// and goes down in four parts. They come in another order, one of them twice, and ground releases
+/// the report as it was opened.
+pub fn large_reports_go_down()
+    ensures configured { IsConfig usual }
+    ensures can { CanMoveAll usual usual_memories (reverse report_moves) }
+    ensures log { (came_to usual usual_memories (reverse report_moves)).ends.log
+        ≡ reverse report_log }
+{}
+
+/// The state of the spacecraft's end is written, and read back in a configuration with a shorter
+/// timeout and with room for one reception. Then the first part of a message opens one, and that of
+/// another message has no room; the reception expires behind that timeout, and now there is room.
+pub fn limits_change_at_a_reading()
+    ensures configured { IsConfig usual }
+    ensures can { CanDoAll usual unwritten (reverse resumed_deeds) }
+    ensures log { (after_deeds usual unwritten (reverse resumed_deeds)).pair.ends.log
+        ≡ reverse resumed_log }
 {}
 
 /// A worked state has these octets, which were made outside, and they are read as it, at an end of
