@@ -327,7 +327,7 @@ enum LptPieceKind {
        LPT_E_IDLE, LPT_E_NO_SECONDARY or LPT_E_SEGMENTED. */
     LPT_PIECE_WHOLE = 1,
     /* Only in step: octets that are no packet, as many as their header says. After them the stream
-       ends, or a packet follows that is WHOLE out of step. */
+       ends, or a packet follows that is WHOLE out of step. No such packet ends where they end. */
     LPT_PIECE_DAMAGED = 2,
     /* An octet with which no WHOLE or DAMAGED piece begins. */
     LPT_PIECE_STRAY = 3

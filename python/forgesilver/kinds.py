@@ -36,7 +36,7 @@ class PieceKind(IntEnum):
     - WHOLE: a packet; in step also an idle packet, or a packet with a right checksum that has no
       secondary header or is a segment
     - DAMAGED, only in step: octets that are no packet, as many as their header says, with a packet or
-      the end after them
+      the end after them, and no packet at their own end
     - STRAY: an octet with which no such piece begins
     """
 

@@ -197,6 +197,12 @@ def is_framed(octets):
     return len(octets) > 5 and len(octets) >= 7 + number_of(octets[4:6])
 
 
+def ends_in_packet(octets):
+    """Whether a packet stands behind some of these octets, and ends where they end."""
+    ends = (octets[at:] for at in range(1, len(octets) - 5))
+    return any(7 + number_of(end[4:6]) == len(end) and begins(end, False) for end in ends)
+
+
 def told_piece(octets, in_step, is_end):
     """What lpt_find_piece has to tell: a kind and a size, or that more is wanted."""
     size = 7 + number_of(octets[4:6]) if len(octets) > 5 else len(octets)
@@ -209,7 +215,8 @@ def told_piece(octets, in_step, is_end):
         waits = in_step or may_begin(octets)
     if not octets or waits and not is_end:
         return MORE, 0, 0
-    is_passed = in_step and is_framed(octets) and (not behind or begins(behind, False))
+    leads = is_framed(octets) and (not behind or begins(behind, False))
+    is_passed = in_step and leads and not ends_in_packet(octets[:size])
     return (0, 2, size) if is_passed else (0, 3, 1)
 
 

@@ -1,12 +1,12 @@
 -- What stands in front of a stream by each cut, whatever comes behind.
-use Rattle.std.proofs.Common.{◌≡◌, ◌∙◌, ap, sym, refl, ℕ, suc, ◌+◌, ◌≤◌, ◌<◌, ◌==◌, nat_le, nat_lt, Bool, true, false, ◌&&◌, ◌||◌, if◌then◌else◌, List, [], ◌++◌, length, take, arith, append-nil, length-take, take_all}
+use Rattle.std.proofs.Common.{◌≡◌, ◌∙◌, ap, sym, refl, ℕ, suc, ◌+◌, ◌≤◌, ◌<◌, ◌==◌, nat_le, nat_lt, Bool, true, false, not, ◌&&◌, ◌||◌, if◌then◌else◌, List, [], ◌++◌, length, take, arith, append-nil, length-take, take_all}
 use Rattle.lpt_packet.specs.Numbers.{word_at}
 use Rattle.lpt_packet.proofs.Readings.{eq_false}
 use Rattle.lpt_stream.specs.declared.cut.Cut.{Cut}
 use Rattle.lpt_stream.specs.declared.cut.Cut.TheVariants.{Sealed, Framed, Resumed}
 use Rattle.lpt_stream.specs.declared.piece_kind.PieceKind.{PieceKind}
 use Rattle.lpt_stream.specs.declared.piece_kind.PieceKind.TheVariants.{Whole, Damaged, Stray}
-use Rattle.lpt_stream.specs.Pieces.{lookahead, begins, begins_by, behind, ends_in_checksum, frame, follows, is_all, is_awaited, is_cut_off, is_framed, is_short, is_version, kind_by, len_by, most_damaged, most_in_row, piece_by, piece_of, reach_waits, reaches, size_in, stays_judged, waits_by}
+use Rattle.lpt_stream.specs.Pieces.{lookahead, begins, begins_by, behind, ends_in_checksum, ends_in_packet, frame, follows, is_all, is_awaited, is_cut_off, is_framed, is_short, is_version, kind_by, len_by, most_damaged, most_in_row, piece_by, piece_of, reach_waits, reaches, size_in, stays_judged, waits_by}
 use Rattle.lpt_stream.specs.Streams.{IsUnfinished}
 use Rattle.lpt_stream.proofs.PieceLemmas.{judged_stays, of_kind, packet_stays, piece_stays, unframed_begins, whole}
 use Rattle.lpt_stream.proofs.BelievedLemmas.{awaited_few, awaited_unfit, awaited_unframed, framed_unawaited, some_there, unframed_fit}
@@ -106,7 +106,8 @@ pub unframed_kind : (c : Cut) (s : Bool) (b : List ℕ) → is_framed b ≡ fals
     → kind_by c s b ≡ (if is_cut_off c s b then Damaged else Stray)
 unframed_kind Sealed true b h =
     λ i. if unframed_begins true b h i then Whole else
-    if (h i && ((length (behind b) == 0) || begins false (behind b))) then Damaged else Stray
+    if (h i && (((length (behind b) == 0) || begins false (behind b))
+    && not (ends_in_packet (frame b)))) then Damaged else Stray
 unframed_kind Sealed false b h =
     ap (λ (t : Bool). if t then Whole else Stray) (unframed_begins false b h)
 unframed_kind Framed s b h =

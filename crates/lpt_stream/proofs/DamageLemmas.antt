@@ -1,12 +1,12 @@
 -- Octets that are as many as their header says, and no packet, are passed over as one.
-use Rattle.std.proofs.Common.{◌≡◌, ◌∙◌, ap, sym, subst, refl, inl, inr, ℕ, suc, ◌+◌, ◌-◌, ◌≤◌, ◌<◌, ◌==◌, Bool, true, false, ◌&&◌, ◌||◌, if◌then◌else◌, List, [], ◌∷◌, ◌++◌, length, take, drop, arith, take_all, length-append}
+use Rattle.std.proofs.Common.{◌≡◌, ◌∙◌, ap, sym, subst, refl, inl, inr, ℕ, suc, ◌+◌, ◌-◌, ◌≤◌, ◌<◌, ◌==◌, Bool, true, false, not, ◌&&◌, ◌||◌, if◌then◌else◌, List, [], ◌∷◌, ◌++◌, length, take, drop, arith, take_all, length-append}
 use Rattle.std.proofs.Math.Seq.{drop-append_seam, take-append_seam}
 use Rattle.lpt_packet.specs.Numbers.{word_at}
 use Rattle.lpt_packet.specs.Packets.{APacket, Fields, IsPacket}
 use Rattle.lpt_packet.proofs.Codec.{length-spelling}
 use Rattle.lpt_packet.proofs.Found.{again}
 use Rattle.lpt_stream.specs.declared.piece_kind.PieceKind.TheVariants.{Whole, Damaged, Stray}
-use Rattle.lpt_stream.specs.Pieces.{Piece, lookahead, frame, behind, is_framed, is_passed, ends_in_checksum, is_found, is_of_flags, is_taken, begins, kind_in, piece_of, piece_at, piece_by, Leads, Finds}
+use Rattle.lpt_stream.specs.Pieces.{Piece, lookahead, frame, behind, is_framed, is_passed, ends_in_checksum, ends_in_packet, is_found, is_of_flags, is_taken, begins, kind_in, piece_of, piece_at, piece_by, Leads, Finds}
 use Rattle.lpt_stream.specs.Streams.{IsDamaged, IsEndOrPacket, IsFramed}
 use Rattle.lpt_stream.proofs.StreamLemmas.{framed_packet, word_at-front}
 
@@ -101,9 +101,13 @@ near_kind b more h next =
     ∙ ap (is_taken true (ends_in_checksum b)) h.told
     ∙ untaken (is_of_flags h.fault) (ends_in_checksum b) h.wrong)
     (both (is_framed (b ++ more))
-    ((length (behind (b ++ more)) == 0) || begins false (behind (b ++ more)))
+    (((length (behind (b ++ more)) == 0) || begins false (behind (b ++ more)))
+    && not (ends_in_packet (frame (b ++ more))))
     (framed b more h.framed)
-    (ap (λ x. (length x == 0) || begins false x) (rest_is b more h.framed) ∙ next)) where
+    (both ((length (behind (b ++ more)) == 0) || begins false (behind (b ++ more)))
+    (not (ends_in_packet (frame (b ++ more))))
+    (ap (λ x. (length x == 0) || begins false x) (rest_is b more h.framed) ∙ next)
+    (ap (λ x. not (ends_in_packet x)) (front b more h.framed) ∙ ap not h.last))) where
       both : (p q : Bool) → p ≡ true → q ≡ true → (p && q) ≡ true
       both true q h k = k
       both false q h k = absurd cc

@@ -5,6 +5,7 @@ pub mod ByLemmas
 pub mod CutLemmas
 pub mod DamageLemmas
 pub mod EndLemmas
+pub mod EndingLemmas
 pub mod FollowLemmas
 pub mod FoundLemmas
 pub mod FrontLemmas

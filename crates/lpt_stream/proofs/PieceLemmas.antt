@@ -12,7 +12,7 @@ use Rattle.lpt_packet.proofs.OctetLists.{IsOctets-take}
 use Rattle.lpt_packet.proofs.Readings.{eq_false, lt_false, not_lt, tests_passed, true_eq}
 use Rattle.lpt_stream.specs.declared.piece_kind.PieceKind.{PieceKind}
 use Rattle.lpt_stream.specs.declared.piece_kind.PieceKind.TheVariants.{Whole, Damaged, Stray}
-use Rattle.lpt_stream.specs.Pieces.{Piece, lookahead, frame, behind, ends_in_checksum, is_of_flags, is_taken, is_found, begins, is_framed, is_passed, first_fits, flags_fit, size_fits, may_begin, is_open, waits, kind_in, size_in, piece_of, piece_at, piece_by}
+use Rattle.lpt_stream.specs.Pieces.{Piece, lookahead, frame, behind, ends_in_checksum, ends_in_packet, is_of_flags, is_taken, is_found, begins, is_framed, is_passed, first_fits, flags_fit, size_fits, may_begin, is_open, waits, kind_in, size_in, piece_of, piece_at, piece_by}
 use Rattle.lpt_stream.specs.Streams.{IsUnfinished}
 use Rattle.lpt_stream.proofs.StreamLemmas.{word_at-front}
 
@@ -294,8 +294,11 @@ passed_kept b more framed closed_behind =
     ap (λ l. length l == 0) rest ∙ none_lost (behind b) more some in
     let begun : begins false (behind (b ++ more)) ≡ begins false (behind b) =
     ap (begins false) rest ∙ closed (behind b) more closed_behind in
-    (λ i. longer_still i && (still i || begun i))
-    ∙ sym (λ i. framed i && (some i || begins false (behind b))) where
+    let same : ends_in_packet (frame (b ++ more)) ≡ ends_in_packet (frame b) =
+    ap ends_in_packet (frame-more b more fits) in
+    (λ i. longer_still i && ((still i || begun i) && not (same i)))
+    ∙ sym (λ i. framed i
+    && ((some i || begins false (behind b)) && not (ends_in_packet (frame b)))) where
       enough : (a n m : ℕ) → a ≤ n → n ≤ m → nat_le a m ≡ true
       enough a n m h k = grind (arith, h, k)
 

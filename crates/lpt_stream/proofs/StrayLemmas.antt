@@ -12,7 +12,7 @@ strays-first e b = omega arith
 pub rest-is : (at : ℕ) (b : List ℕ) → take (length b - at) (drop at b) ≡ drop at b
 rest-is at b = take_all (length b - at) (drop at b) (omega (arith, length-drop at b))
 
-front-is : (n : ℕ) (b : List ℕ) → n < length b → drop n b ≡ get_or b n 0 ∷ drop (n + 1) b
+pub front-is : (n : ℕ) (b : List ℕ) → n < length b → drop n b ≡ get_or b n 0 ∷ drop (n + 1) b
 front-is n b some = drop-cons b n 0 some ∙ ap (λ k. get_or b n 0 ∷ drop k b) (sym (add-one n))
 
 -- such an octet, and those behind it

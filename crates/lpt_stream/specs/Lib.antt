@@ -1,4 +1,5 @@
 pub mod Buffers
+pub mod Ending
 pub mod Fronts
 pub mod Lengths
 pub mod Marked

@@ -63,10 +63,23 @@ begins s b = is_found s (frame b)
 abbrev pub is_framed : List ℕ → Bool
 is_framed b = nat_le (7 + word_at b 4) (length b)
 
+-- whether a packet begins at the front, and ends where these octets end
+abbrev pub fills : List ℕ → Bool
+fills b = (7 + word_at b 4 == length b) && begins false b
+
+-- whether one does so behind some of them: the last of those that fill them to their end, if more
+-- than one does, one behind the other
+unfoldable pub ends_in_packet : List ℕ → Bool
+ends_in_packet [] = false
+ends_in_packet (x ∷ b) = fills b || ends_in_packet b
+
 -- whether what begins at the front is as long as its header says, with a packet behind it, or
--- nothing
+-- nothing, and doesn't end in a packet: if it does, its length is none, since it ends where packets
+-- inside of it end
 abbrev pub is_passed : List ℕ → Bool
-is_passed b = is_framed b && ((length (behind b) == 0) || begins false (behind b))
+is_passed b =
+    is_framed b
+    && (((length (behind b) == 0) || begins false (behind b)) && not (ends_in_packet (frame b)))
 
 -- whether the version of what begins at the front is 0, as far as it has come
 abbrev pub is_version : List ℕ → Bool

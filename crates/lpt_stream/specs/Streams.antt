@@ -6,7 +6,7 @@ use Rattle.lpt_packet.specs.declared.fault.PacketFault.{PacketFault}
 use Rattle.lpt_packet.specs.Packets.{Fields, IsPacket, IsIdle, verdict}
 use Rattle.lpt_packet.specs.Checksums.{checksum}
 use Rattle.lpt_packet.specs.Sizes.{primary_header, longest_packet}
-use Rattle.lpt_stream.specs.Pieces.{ends_in_checksum, is_of_flags}
+use Rattle.lpt_stream.specs.Pieces.{ends_in_checksum, ends_in_packet, is_of_flags}
 
 -- ---- the front
 
@@ -74,13 +74,14 @@ AreInStep (b ∷ bs) = IsInStep b × AreInStep bs
 -- ---- damage
 
 -- as many octets as their header says, and no packet: a reader finds a fault, and if that is of
--- the flags alone, the checksum is wrong
+-- the flags alone, the checksum is wrong; and no packet inside of them ends where they end
 pub record IsDamaged (b : List ℕ) : Type 0 where
   pub framed : IsFramed b
   pub short : length b ≤ longest_packet
   pub fault : PacketFault
   pub told : verdict b ≡ Err fault
   pub wrong : is_of_flags fault ≡ true → ends_in_checksum b ≡ false
+  pub last : ends_in_packet b ≡ false
 
 -- nothing comes, or a packet stands in front
 abbrev pub IsEndOrPacket : List ℕ → Type 0

@@ -9,6 +9,7 @@ ghost use Rattle.lpt_stream.specs.declared.cut.Cut.TheVariants.{Resumed};
 ghost use Rattle.lpt_stream.specs.declared.piece_kind.PieceKind.TheVariants.{Whole, Stray};
 
 use crate::cutting::whole_length;
+use crate::ending::ends_in_packet;
 use crate::front::LOOKAHEAD;
 use crate::reaching::{follows, is_awaited, reaches};
 use crate::waiting::may_begin;
@@ -143,13 +144,15 @@ pub(crate) fn packet_unless(is_judged: bool, cut: Cut, bytes: &[u8], in_step: bo
 }
 
 // How many octets the packet has that the header in front announces, if they have all come. If
-// their checksum isn't 0, no packet begins there, behind octets that are none.
+// their checksum isn't 0, no packet begins there, behind octets that are none; nor if there is no
+// such header.
 pub(crate) fn length_announced(bytes: &[u8]) -> Option<usize>
     ensures within { IfSome result (λ n. n ≤ length bytes.now) }
     ensures short { IfSome result (λ n. n ≤ longest_packet) }
     ensures none { IfSome result (λ n. checksum (take n bytes.now) ≢ 0
         → begins false bytes.now ≡ false) }
     ensures len { IfSome result (λ n. n ≡ 7 + word_at bytes.now 4) }
+    ensures missed { result ≡ None → begins false bytes.now ≡ false }
     ensures wrong { IfSome result (λ n. checksum (take n bytes.now) ≢ 0
         → ends_in_checksum (frame bytes.now) ≡ false) }
 {
@@ -219,6 +222,7 @@ fn is_all(bytes: &[u8]) -> bool
 fn other_framed(cut: Cut, bytes: &[u8], in_step: bool, len: usize) -> PieceKind
     requires within { len ≤ length bytes.now }
     requires len { len ≡ 7 + word_at bytes.now 4 }
+    requires short { len ≤ longest_packet }
     requires none { begins_by cut in_step bytes.now ≡ false }
     ensures { result ≡ kind_by cut in_step bytes.now }
 {
@@ -236,10 +240,11 @@ fn other_framed(cut: Cut, bytes: &[u8], in_step: bool, len: usize) -> PieceKind
 fn passes_over(cut: Cut, bytes: &[u8], len: usize) -> bool
     requires within { len ≤ length bytes.now }
     requires len { len ≡ 7 + word_at bytes.now 4 }
+    requires short { len ≤ longest_packet }
     ensures { result ≡ passes_by cut bytes.now }
 {
     match cut {
-        Cut::Sealed => ends_or_goes_on(&bytes[len..]),
+        Cut::Sealed => ends_or_goes_on(&bytes[len..]) && !ends_in_packet(&bytes[..len]),
         Cut::Framed => false,
         Cut::Resumed(longest) => {
             len <= longest && reaches(is_all(bytes), longest, &bytes[len..])

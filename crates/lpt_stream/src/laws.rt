@@ -1,9 +1,9 @@
 //! What the definitions say of streams, proved of all of them: functions with empty bodies.
 
-ghost use Rattle.std.specs.Prelude.{◌≡◌, ◌++◌, ◌∷◌, ◌<◌, ◌≤◌, ℕ, Bool, List, length, Some, false, true};
+ghost use Rattle.std.specs.Prelude.{◌≡◌, ◌≢◌, ◌++◌, ◌∷◌, ◌<◌, ◌≤◌, ℕ, Bool, List, length, Some, false, true};
 ghost use Rattle.lpt_packet.specs.Packets.{Fields, IsPacket, IsIdle};
 ghost use Rattle.lpt_stream.specs.declared.cut.Cut.{Cut};
-ghost use Rattle.lpt_stream.specs.declared.cut.Cut.TheVariants.{Resumed};
+ghost use Rattle.lpt_stream.specs.declared.cut.Cut.TheVariants.{Resumed, Sealed};
 ghost use Rattle.lpt_stream.specs.declared.piece_kind.PieceKind.TheVariants.{Damaged, Whole};
 ghost use Rattle.lpt_stream.specs.Lengths.{AreLed, IsFoundBy, IsRun, cut_whole};
 ghost use Rattle.lpt_stream.specs.Pieces.{Piece, CutsBy, Finds, LeadsBy, is_awaited, lookahead, piece_by};
@@ -38,6 +38,15 @@ pub fn damage_costs_one_packet()
     ensures damaged { (before : List (List ℕ)) (damaged rest : List ℕ) (packets : List (List ℕ))
         → AreInStep before → IsDamaged damaged → IsEndOrPacket rest → Finds rest packets
         → Finds (all_octets before ++ (damaged ++ rest)) (before ++ packets) }
+{}
+
+/// By checksums no packet is passed over as the end of a damaged one: whatever octets stand in
+/// front of it, in step or not, they aren't a piece together with it.
+pub fn packets_are_not_passed()
+    ensures { (in_step : Bool) (octet : ℕ) (octets packet rest : List ℕ) (f : Fields)
+        → IsPacket packet f
+        → piece_by Sealed in_step (octet ∷ octets ++ (packet ++ rest))
+        ≢ record { kind = Damaged; octets = octet ∷ octets ++ packet } }
 {}
 
 /// While lengths are intact, packets are cut out whole by the cut that resumes, whatever else of

@@ -18,6 +18,8 @@ mod buffer;
 mod cut;
 mod cutting;
 mod each;
+mod ending;
+mod ends;
 mod found;
 mod front;
 pub mod laws;
