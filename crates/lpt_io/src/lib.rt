@@ -16,6 +16,7 @@ mod counts;
 mod disk;
 mod end;
 mod end_machine;
+mod ended;
 mod fault;
 mod input;
 mod keeping;
@@ -38,6 +39,7 @@ pub use counts::{octets_word, tell_no_packets};
 pub use disk::Disk;
 pub use end::{Failure, explain_words, tell_end, tell_place, tell_text, word_refused};
 pub use end_machine::{EndMachine, LastingFiles, PlainMachine, Uplink};
+pub use ended::{carried_ended, copied_ended, failure_at, read_ended, written_ended};
 pub use fault::{Fault, Status, status_of};
 pub use input::{
     Incoming, Origin, Packets, STANDARD, file_at, input_at, name_of, octets_from, open_input,
