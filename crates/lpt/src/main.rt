@@ -6,13 +6,13 @@
 
 ghost use Rattle.lpt_events.specs.Configs.{IsConfig};
 
-use lpt_command_line::{Command, CommandLine, JoinWords, read_words};
+use lpt_command_line::{Command, CommandLine, read_words};
 use lpt_end_commands::{EndMachine, ground, pass, spacecraft};
 use lpt_events::Config;
 use lpt_io::{
     Failure, Fault, Machine, Status, Terminals, Voice, config_of, explain_words, tell_end,
 };
-use lpt_message_commands::{extract, join, join_each, join_layout, split, split_all};
+use lpt_message_commands::{extract, join, split, split_all};
 use lpt_packet_commands::{checksum, compare, decode, link, list, request, verify};
 use lpt_simulator_commands::{RunKind, run};
 use std::io::IsTerminal;
@@ -123,27 +123,11 @@ fn do_on_packets<R: Machine>(
         Command::List(words) => list(rt, voice, config, words),
         Command::Split(words) => split(rt, config, words),
         Command::SplitEach(words) => split_all(rt, config, words),
-        Command::JoinLayout(words) => join_layout(rt, voice, config, words),
-        Command::Join(words) => do_join(rt, voice, config, words),
+        Command::Join(words) => join(rt, voice, config, words),
         Command::Extract(words) => extract(rt, voice, config, words),
         Command::Request(words) => request(rt, config, words),
         Command::Compare(words) => compare(rt, voice, config, words),
         // The others have none.
         _ => Ok(Status::Refused),
-    }
-}
-
-// Joins one message, or each into a folder.
-fn do_join<R: Machine>(
-    rt: &R,
-    voice: Voice,
-    config: &Config,
-    words: &JoinWords<'_>,
-) -> Result<Status, Failure>
-    requires { IsConfig config.now }
-{
-    match words.each {
-        Some(folder) => join_each(rt, voice, config, words, folder),
-        None => join(rt, voice, config, words),
     }
 }

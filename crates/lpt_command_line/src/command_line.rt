@@ -12,7 +12,6 @@ use crate::request_words::{RequestWords, request_command};
 use crate::setting_words::{SettingWords, setting_words};
 use crate::spacecraft_words::{SpacecraftWords, spacecraft_command};
 use crate::split_words::{SplitEachWords, SplitOneWords, split_command, split_each_command};
-use crate::tailored_words::{JoinLayoutWords, join_layout_command};
 use crate::verify_words::{VerifyWords, verify_command};
 use crate::word_fault::WordFault;
 use clap::{ArgMatches, Error};
@@ -58,8 +57,6 @@ pub enum Command<'a> {
     SplitEach(SplitEachWords<'a>),
     /// `join up|down [FILE]..`.
     Join(JoinWords<'a>),
-    /// `join up|down [FILE].. --layout FILE`.
-    JoinLayout(JoinLayoutWords<'a>),
     /// `link [FILE]..`.
     Link(LinkWords<'a>),
     /// `extract [FILE]..`.
@@ -184,7 +181,6 @@ fn command_of<'a>(
     match name {
         "run" | "threads" => script_command(name, words),
         "list" => list_command(alloc, words),
-        "join" if words.get_str("layout").is_some() => join_layout_command(alloc, words),
         "split" if words.get_flag("each") => split_each_command(alloc, words),
         "split" => split_command(words),
         "join" => join_command(alloc, words),

@@ -4,40 +4,25 @@ ghost use Rattle.std.specs.Prelude.{◌≤◌, IfSome};
 
 use crate::command_line::Command;
 use crate::layout_words::layout_in;
+use crate::split_words::{MOST, name_within};
 use crate::word_fault::WordFault;
 use clap::ArgMatches;
-use lpt_packet::{Direction, Name};
+use lpt_packet::Direction;
 use std::alloc::Global;
 
 /// The word for standard input.
 pub(crate) const STANDARD: &str = "-";
 
-/// What words name a transaction by: its identifier, behind its source if that is given.
-#[derive(Clone, Copy)]
-pub struct GivenName {
-    /// Its source, if it is given.
-    pub source: Option<u16>,
-    /// Its identifier.
-    pub id: u16,
-}
-
-impl GivenName {
-    /// The name that is meant if this source is configured.
-    pub fn under(&self, configured: u16) -> Name {
-        Name {
-            source: self.source.unwrap_or(configured),
-            id: self.id,
-        }
-    }
-}
-
 /// What `join` asks for.
 #[derive(Drop)]
 pub struct JoinWords<'a> {
+    /// The path of the layouts, if one is given.
+    pub layout: Option<&'a str>,
     /// The direction of the packets.
     pub direction: Direction,
-    /// What names the message; without that, it is the only one there.
-    pub name: Option<GivenName>,
+    /// The word that names the message, which `name_within` reads; without that, it is the only one
+    /// there.
+    pub name: Option<&'a str>,
     /// The paths of the packets, one behind the other, or `-` for standard input.
     pub files: Vec<&'a str>,
     /// Whether what is joined needn't be a packet.
@@ -112,11 +97,15 @@ pub(crate) fn join_command<'a>(
     let Some(direction) = direction_in(matches) else {
         return Err(WordFault::Missing);
     };
-    let name = id_in(matches)?;
+    let (layout, name) = (layout_in(matches), matches.get_str("id"));
+    if let (None, Some(word)) = (layout, name) {
+        name_within("--id <ID>", word, MOST, MOST)?;
+    }
     let first = matches.get_flag("first");
     let each = each_in(matches, name.is_some(), first)?;
     let span = span_in(matches)?;
     Ok(Command::Join(JoinWords {
+        layout,
         direction,
         name,
         any: matches.get_flag("any"),
@@ -126,24 +115,6 @@ pub(crate) fn join_command<'a>(
         span,
         files: files_in(alloc, matches)?,
     }))
-}
-
-// What names the message, if that is given.
-//
-// Errors: `Id`.
-fn id_in<'a>(matches: &ArgMatches<'a>) -> Result<Option<GivenName>, WordFault<'a>> {
-    let Some(word) = matches.get_str("id") else {
-        return Ok(None);
-    };
-    match name_in(word) {
-        Some(name) => Ok(Some(name)),
-        None => Err(WordFault::Id {
-            place: "--id <ID>",
-            word,
-            most: 65_535,
-            source: 65_535,
-        }),
-    }
 }
 
 // Which octets are read.
@@ -188,18 +159,6 @@ pub(crate) fn paths_in<'a>(
         }
     }
     Ok(files)
-}
-
-// What a word names, as `ID` or as `SOURCE/ID`.
-pub(crate) fn name_in(word: &str) -> Option<GivenName> {
-    let (source, id) = match word.split_once('/') {
-        Some((source, id)) => (Some(source.parse().ok()?), id),
-        None => (None, word),
-    };
-    Some(GivenName {
-        source,
-        id: id.parse().ok()?,
-    })
 }
 
 /// What the words of `list` ask for.

@@ -15,7 +15,7 @@ use std::alloc::Global;
 const ALL: &str = "1-";
 
 /// The greatest source and identifier of the profile.
-const MOST: u32 = 65_535;
+pub(crate) const MOST: u32 = 65_535;
 
 /// What `split` asks for of a message, or of each.
 #[derive(Clone, Copy)]

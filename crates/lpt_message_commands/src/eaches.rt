@@ -1,16 +1,11 @@
 //! Every message of packets, each written into a file of its own.
 
 ghost use Rattle.std.specs.Prelude.{◌≡◌, IfErr};
-ghost use Rattle.lpt_events.specs.Configs.{IsConfig};
 
-use crate::joins::{source_of, tell, tell_none, tell_skips, unfit_text, who};
+use crate::joins::{Joining, source_of, tell, tell_none, tell_skips, unfit_text, who};
 use crate::placed_joins::write_placed;
-use lpt_carried::{Name, Reading, Skips, Wanted, name_text};
-use lpt_command_line::{JoinWords, Span};
-use lpt_events::Config;
-use lpt_io::{
-    Failure, Fault, Machine, Packets, Status, Voice, opened_packets, packets_end, write_beside,
-};
+use lpt_carried::{Name, Reading, Skips, name_text};
+use lpt_io::{Failure, Fault, Machine, Packets, Status, failure_at, read_ended, write_beside};
 use lpt_layout_each::{CameAs, NewsAs, Shelf, write_messages};
 use lpt_layout_join::{PartNumbers, missing_list};
 use lpt_part::Kind;
@@ -24,8 +19,7 @@ use std::rt::Files;
 #[derive(Drop)]
 pub(crate) struct MachineShelf<'a, R: Machine> {
     rt: &'a R,
-    voice: Voice,
-    words: EachWords<'a>,
+    joining: Joining<'a>,
     // Whether a part came, and whether parts never became whole.
     came: bool,
     lost: bool,
@@ -81,16 +75,15 @@ impl<R: Machine> MachineShelf<'_, R> {
         ensures { IfErr result (λ e. e ≡ StreamFault.Memory) }
     {
         self.lost = true;
-        self.voice.clear(self.rt);
-        let from = self.words.span.from.unwrap_or(0);
-        match tell_lost(
-            self.rt,
-            self.words.user,
-            &self.words.reading,
-            from,
-            name,
-            news,
-        ) {
+        let Joining {
+            voice,
+            user,
+            wanted,
+            words,
+        } = self.joining;
+        voice.clear(self.rt);
+        let from = words.span.from.unwrap_or(0);
+        match tell_lost(self.rt, user, &wanted.reading, from, name, news) {
             Ok(()) => Ok(()),
             Err(_) => Err(StreamFault::Memory),
         }
@@ -133,82 +126,32 @@ pub fn tell_lost(
     }
 }
 
-/// How every message is asked for.
-#[derive(Clone, Copy)]
-pub struct EachWords<'a> {
-    /// The source that is configured.
-    pub user: u32,
-    /// How parts are read.
-    pub reading: Reading,
-    /// Whether what is joined needn't be a packet.
-    pub any: bool,
-    /// Whether a line of JSON says where each message is.
-    pub json: bool,
-    /// Which octets of the packets are read.
-    pub span: Span,
-    /// The paths of the packets.
-    pub files: &'a [&'a str],
-    /// The path of the folder.
-    pub path: &'a str,
-}
-
-/// Writes every message that packets of the profile carry, each into a file of its own in the
+/// Writes every message that packets carry which were opened, each into a file of its own in the
 /// folder at this path, which is made if it isn't there.
 ///
-/// Errors: `Read` if the packets can't be opened or read, or their capture is wrong; `Write`
-/// if the folder can't be made, or a message can't be written into a file that isn't there yet;
-/// `Memory`.
-pub fn join_each<'a, R: Machine>(
-    rt: &'a R,
-    voice: Voice,
-    config: &Config,
-    words: &'a JoinWords<'a>,
-    path: &'a str,
-) -> Result<Status, Failure>
-    requires { IsConfig config.now }
-{
-    let span = words.span;
-    let mut source = opened_packets(rt, voice, &words.files, span.from, span.to)?;
-    let words = EachWords {
-        user: u32::from(config.source),
-        reading: Reading::own(words.direction, config.apid, config.part_size),
-        any: words.any,
-        json: words.json,
-        span,
-        files: words.files.as_slice(),
-        path,
-    };
-    let status = write_each(rt, voice, words, &mut source);
-    drop(source);
-    status
-}
-
-/// Does the same with packets that were opened.
-///
-/// Errors: `Read` if they can't be read, or their capture is wrong; the others of `join_each`.
+/// Errors: `Read` if they can't be read, or their capture is wrong; `Write` if the folder can't be
+/// made, or a message can't be written into a file that isn't there yet; `Memory`.
 pub fn write_each<'a, R: Machine>(
     rt: &'a R,
-    voice: Voice,
-    words: EachWords<'a>,
+    joining: Joining<'a>,
+    path: &'a str,
     source: &mut Packets<R>,
 ) -> Result<Status, Failure> {
-    if let Err(error) = fs::create_dir_all(rt, words.path) {
-        let path = words.path;
-        let place = format!(in rt.alloc(); "{path}: {error}");
-        return Err(Failure::at(Fault::Write, place));
+    if let Err(error) = fs::create_dir_all(rt, path) {
+        return Err(failure_at(rt, Fault::Write, path, &error));
     }
     let shelf = MachineShelf {
         rt,
-        voice,
-        words,
+        joining,
         came: false,
         lost: false,
         failure: None,
     };
-    let (reading, path) = (&words.reading, words.path);
+    let words = joining.words;
     let (ended, shelf) = if words.json {
-        write_placed(rt, words, source, shelf)
+        write_placed(rt, joining, path, source, shelf)
     } else {
+        let reading = &joining.wanted.reading;
         write_messages(rt.alloc(), reading, words.any, path, source, shelf)
     };
     let MachineShelf {
@@ -217,35 +160,12 @@ pub fn write_each<'a, R: Machine>(
         failure,
         ..
     } = shelf;
-    let failed = matches!(ended, Err(StreamFault::Read));
-    let failure = match packets_end(rt, voice, source, words.files, failed) {
-        Some(first) => {
-            drop(failure);
-            Some(first)
-        }
-        None => failure,
-    };
-    match failure {
-        Some(failure) => Err(failure),
-        None => status_of(rt, &words, came, lost, ended),
+    let read = read_ended(rt, joining.voice, source, &words.files, ended);
+    if let Some(failure) = failure {
+        drop(read);
+        return Err(failure);
     }
-}
-
-// The status of a join that ended so.
-fn status_of(
-    rt: &(impl Eprint + AllocGlobal),
-    words: &EachWords<'_>,
-    came: bool,
-    lost: bool,
-    ended: Result<Skips, StreamFault>,
-) -> Result<Status, Failure> {
-    match ended {
-        Ok(skips) => match tell_outcome(rt, words, came, lost, &skips) {
-            Ok(status) => Ok(status),
-            Err(_) => Err(Failure::from(Fault::Memory)),
-        },
-        Err(fault) => Err(Failure::from(fault)),
-    }
+    Ok(tell_outcome(rt, &joining, came, lost, &read?)?)
 }
 
 // The status of a join whose stream was read to its end, after standard error was told if no part
@@ -253,22 +173,19 @@ fn status_of(
 // error is out of memory.
 fn tell_outcome(
     rt: &(impl Eprint + AllocGlobal),
-    words: &EachWords<'_>,
+    joining: &Joining<'_>,
     came: bool,
     lost: bool,
     skips: &Skips,
 ) -> Result<Status, AllocError> {
-    let wanted = Wanted {
-        reading: words.reading,
-        name: None,
-    };
-    if came && !lost && !skips.loses(&wanted) {
+    let wanted = &joining.wanted;
+    if came && !lost && !skips.loses(wanted) {
         return Ok(Status::Done);
     }
     if !came {
-        tell_none(rt, &words.reading, skips)?;
+        tell_none(rt, &wanted.reading, skips)?;
     }
-    tell_skips(rt, words.user, &wanted, words.span.from, skips)?;
+    tell_skips(rt, joining.user, wanted, joining.words.span.from, skips)?;
     Ok(Status::Refused)
 }
 

@@ -1,16 +1,11 @@
 //! The octets of dump reports that may come in parts, joined.
 
-ghost use Rattle.lpt_events.specs.Configs.{IsConfig};
-
 use crate::eaches::tell_lost;
 use crate::extract_notices::Telling;
-use lpt_carried::{Layouts, Name, Reading};
-use lpt_command_line::ExtractWords;
-use lpt_events::Config;
+use lpt_carried::{Name, Reading};
 use lpt_extract::{Extracted, Hearers, Sink, TakerAs, Wanted, extract_joined_as};
-use lpt_io::{Machine, Packets, Voice, reading_of};
+use lpt_io::{Machine, Packets, Voice};
 use lpt_layout_each::NewsAs;
-use lpt_packet::Direction;
 use lpt_text::StreamFault;
 
 /// Standard error, which is told of parts that never became whole.
@@ -43,40 +38,9 @@ impl<R: Machine> TakerAs for Losses<'_, R> {
     }
 }
 
-/// How parts that come down are read: by the layouts of a file if one is given, otherwise by the
-/// profile.
-pub fn reading_down(config: &Config, layouts: &Layouts, words: &ExtractWords<'_>) -> Reading
-    requires { IsConfig config.now }
-{
-    if words.layout.is_some() {
-        reading_of(layouts, config.apid, Direction::Down)
-    } else {
-        Reading::own(Direction::Down, config.apid, config.part_size)
-    }
-}
-
-/// Writes the octets that dump reports hold which may come in parts: by the layouts of a file if
-/// one is given, otherwise by the profile. Beside what that gave it answers whether parts never
-/// became whole, which standard error was told.
+/// Writes the octets that dump reports hold which may come in parts that are read so. Beside what
+/// that gave it answers whether parts never became whole, which standard error was told.
 pub fn extract_parts<R: Machine, K: Sink>(
-    rt: &R,
-    voice: Voice,
-    config: &Config,
-    layouts: &Layouts,
-    wanted: &Wanted,
-    words: &ExtractWords<'_>,
-    source: &mut Packets<R>,
-    out: &mut K,
-) -> (Result<Extracted, StreamFault>, bool)
-    requires { IsConfig config.now }
-{
-    let reading = reading_down(config, layouts, words);
-    let user = u32::from(config.source);
-    extract_as(rt, voice, user, &reading, wanted, source, out)
-}
-
-// The same of parts that are read so.
-fn extract_as<R: Machine, K: Sink>(
     rt: &R,
     voice: Voice,
     user: u32,

@@ -2,18 +2,17 @@
 
 ghost use Rattle.lpt_events.specs.Configs.{IsConfig};
 
-use crate::extract_joins::{extract_parts, reading_down};
+use crate::extract_joins::extract_parts;
 use crate::extract_notices::Telling;
-use lpt_carried::{Layouts, Reading, Skips, Wanted as Parts};
+use lpt_carried::{Reading, Skips, Wanted as Parts};
 use lpt_command_line::ExtractWords;
 use lpt_events::Config;
 use lpt_extract::{ExtractEnd, Extracted, ImagePlace, Others, Tally, Wanted, extract_stream};
 use lpt_io::{
-    Failure, Fault, Machine, Packets, Status, Voice, finish, first_failure, layouts_at,
-    opened_packets, output, packets_end, tell_no_packets, tell_place, tell_text,
+    Failure, Fault, Machine, Packets, Status, Voice, carried_ended, opened_packets, output,
+    own_or_read, reading_of, tell_no_packets, tell_place, tell_text,
 };
 use lpt_packet::Direction;
-use lpt_text::StreamFault;
 use std::alloc::{AllocError, Global};
 use std::collections::BTreeMap;
 
@@ -36,76 +35,50 @@ pub fn extract<R: Machine>(
         return Ok(Status::Unreadable);
     };
     let voice = voice.beside_output();
-    let layouts = match words.layout {
-        Some(path) => layouts_at(rt, path)?,
-        None => Some(Layouts::own()),
-    };
-    let Some(layouts) = layouts else {
+    let Some(layouts) = own_or_read(rt, config.part_size, words.layout)? else {
         return Ok(Status::Unreadable);
     };
+    let reading = reading_of(&layouts, config.apid, Direction::Down);
     let wanted = Wanted {
         apid: config.apid,
-        layout: layouts.tailored_in(Direction::Down).packets,
+        layout: reading.layout,
         at,
     };
+    let parts = words.join.then_some((u32::from(config.source), reading));
     let mut source = opened_packets(rt, voice, &words.files, None, None)?;
-    let status = extract_packets(rt, voice, config, &layouts, &wanted, words, &mut source);
+    let status = extract_packets(rt, voice, parts, &wanted, &words.files, &mut source);
     drop(source);
     status
 }
 
-// The same of packets that were opened.
+// The same of packets that were opened at these paths. If parts are joined, this source is
+// configured, and they are read so.
 fn extract_packets<R: Machine>(
     rt: &R,
     voice: Voice,
-    config: &Config,
-    layouts: &Layouts,
+    parts: Option<(u32, Reading)>,
     wanted: &Wanted,
-    words: &ExtractWords<'_>,
+    paths: &[&str],
     source: &mut Packets<R>,
-) -> Result<Status, Failure>
-    requires { IsConfig config.now }
-{
+) -> Result<Status, Failure> {
     let mut out = output(rt)?;
-    let (extracted, lost) = if words.join {
-        extract_parts(rt, voice, config, layouts, wanted, words, source, &mut out)
-    } else {
-        let mut telling = Telling { rt, voice };
-        let extracted = extract_stream(rt.alloc(), wanted, source, &mut out, &mut telling);
-        (extracted, false)
+    let (extracted, lost) = match &parts {
+        Some((user, reading)) => {
+            extract_parts(rt, voice, *user, reading, wanted, source, &mut out)
+        }
+        None => {
+            let mut telling = Telling { rt, voice };
+            let extracted = extract_stream(rt.alloc(), wanted, source, &mut out, &mut telling);
+            (extracted, false)
+        }
     };
-    let failed = matches!(extracted, Err(StreamFault::Read));
-    let failure = packets_end(rt, voice, source, &words.files, failed);
-    let finished = first_failure(finish(rt, out), failure);
-    let joined = if words.join {
-        Some(reading_down(config, layouts, words))
-    } else {
-        None
-    };
-    let tells = voice.tells() || lost;
-    let status = status_of(rt, tells, wanted, joined, finished, &extracted);
+    let extracted = carried_ended(rt, voice, source, paths, out, extracted)?;
+    let joined = parts.map(|(_, reading)| reading);
+    let status = extract_status(rt, voice.tells() || lost, wanted, joined, &extracted);
     drop(extracted);
     match status {
         Ok(Status::Done) if lost => Ok(Status::Refused),
         status => status,
-    }
-}
-
-// The status of an extraction that ended so, once its output was finished, by how joined parts are
-// read, if parts were joined. What is of another APID is told if it tells of all, or if not all is
-// well.
-fn status_of(
-    rt: &(impl Eprint + AllocGlobal),
-    tells: bool,
-    wanted: &Wanted,
-    joined: Option<Reading>,
-    finished: Result<(), Failure>,
-    extracted: &Result<Extracted, StreamFault>,
-) -> Result<Status, Failure> {
-    finished?;
-    match extracted {
-        Ok(extracted) => extract_status(rt, tells, wanted, joined, extracted),
-        Err(fault) => Err(Failure::from(*fault)),
     }
 }
 
@@ -126,8 +99,8 @@ fn place(words: &ExtractWords<'_>) -> Result<Option<ImagePlace>, ()> {
 }
 
 // The status of an extraction that ended so, after it was told why nothing was written, what is
-// missing, which reports weren't read, and what was no packet; and, if it tells of all or not all
-// is well, what is of another APID.
+// missing, which reports and parts weren't read, by how parts were read if they were joined, and
+// what was no packet; and, if it tells of all or not all is well, what is of another APID.
 fn extract_status(
     rt: &(impl Eprint + AllocGlobal),
     tells: bool,

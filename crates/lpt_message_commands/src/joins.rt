@@ -1,44 +1,42 @@
-//! Messages joined of packets, from a file or standard input to standard output.
+//! Messages joined of packets, from files or standard input: one to standard output, or each into a
+//! file of its own.
 
 ghost use Rattle.lpt_events.specs.Configs.{IsConfig};
 
+use crate::eaches::write_each;
+use crate::splits::{name_by, user_of};
 use lpt_carried::{Name, Reading, Skips, Wanted, name_text};
-use lpt_command_line::{JoinWords, Span};
+use lpt_command_line::{JoinWords, WordFault};
 use lpt_events::Config;
 use lpt_io::{
-    Failure, Fault, Machine, Packets, Status, Voice, finish, first_failure, octets_word,
-    opened_packets, output, packets_end, tell_place,
+    Failure, Machine, Packets, Status, Voice, carried_ended, octets_word, opened_packets, output,
+    own_or_read, reading_of, tell_place, word_refused,
 };
 use lpt_layout::Width;
 use lpt_layout_join::{
     Gathering, JoinEnd, JoinReport, MisfitAs, PartNumbers, end_of, join_as, missing_list,
 };
-use lpt_text::StreamFault;
 use std::alloc::{AllocError, Global};
 
-/// How a message is asked for.
+/// What is joined.
 #[derive(Clone, Copy)]
-pub struct OneWords<'a> {
+pub struct Joining<'a> {
     /// What standard error is told beside what is wrong.
     pub voice: Voice,
     /// The source that is configured.
     pub user: u32,
     /// How parts are read, and which are wanted.
     pub wanted: Wanted,
-    /// Whether what is joined needn't be a packet.
-    pub any: bool,
-    /// Whether the first whole message is taken for good.
-    pub first: bool,
-    /// Which octets of the packets are read.
-    pub span: Span,
-    /// The paths of the packets.
-    pub files: &'a [&'a str],
+    /// The words that ask for it.
+    pub words: &'a JoinWords<'a>,
 }
 
-/// Writes the message that packets of the profile carry.
+/// Writes the message that packets carry, or each into a file of its own: by the layouts of a file
+/// if one is given, otherwise by the profile.
 ///
-/// Errors: `Read` if the packets can't be opened or read, or their capture is wrong; `Write`,
-/// `Memory`.
+/// Errors: `Read` if a file can't be opened or read, or a capture is wrong; `Config` if the
+/// layouts' file is too long; `Write`, also if the folder can't be made, or there is a file of a
+/// message; `Memory`.
 pub fn join<R: Machine>(
     rt: &R,
     voice: Voice,
@@ -47,75 +45,64 @@ pub fn join<R: Machine>(
 ) -> Result<Status, Failure>
     requires { IsConfig config.now }
 {
-    let span = words.span;
-    let mut source = opened_packets(rt, voice, &words.files, span.from, span.to)?;
-    let words = OneWords {
-        voice,
-        user: u32::from(config.source),
-        wanted: wanted_of(config, words),
-        any: words.any,
-        first: words.first,
-        span,
-        files: words.files.as_slice(),
+    let Some(layouts) = own_or_read(rt, config.part_size, words.layout)? else {
+        return Ok(Status::Unreadable);
     };
-    let status = join_from(rt, &words, &mut source);
+    let user = u32::from(config.source);
+    let reading = reading_of(&layouts, config.apid, words.direction);
+    let name = match name_in(words, user, &reading) {
+        Ok(name) => name,
+        Err(fault) => return Ok(word_refused(rt, rt.alloc(), &fault)),
+    };
+    let joining = Joining {
+        voice,
+        user,
+        wanted: Wanted { reading, name },
+        words,
+    };
+    let span = joining.words.span;
+    let mut source = opened_packets(rt, voice, &words.files, span.from, span.to)?;
+    let status = match words.each {
+        Some(path) => write_each(rt, joining, path, &mut source),
+        None => write_one(rt, &joining, &mut source),
+    };
     drop(source);
     status
 }
 
-// How the profile's parts are read, and which are wanted.
-fn wanted_of(config: &Config, words: &JoinWords<'_>) -> Wanted
-    requires { IsConfig config.now }
-{
-    let name = match words.name {
-        Some(given) => {
-            let name = given.under(config.source);
-            Some(Name {
-                user: u32::from(name.source),
-                id: u32::from(name.id),
-            })
-        }
-        None => None,
+// The name that the words give, if one is asked for and the layout has room for it, and this
+// source is configured.
+//
+// Errors: `Id`.
+fn name_in<'a>(
+    words: &JoinWords<'a>,
+    source: u32,
+    reading: &Reading,
+) -> Result<Option<Name>, WordFault<'a>> {
+    let Some(word) = words.name else {
+        return Ok(None);
     };
-    Wanted {
-        reading: Reading::own(words.direction, config.apid, config.part_size),
-        name,
-    }
+    let width = reading.layout.user;
+    let given = name_by("--id <ID>", word, width, reading.parts.id)?;
+    Ok(Some(Name {
+        user: user_of(given, source, width),
+        id: given.id,
+    }))
 }
 
-/// Does the same with packets that were opened.
-///
-/// Errors: `Read` if they can't be read, or their capture is wrong; `Write`, `Memory`.
-pub fn join_from<R: Machine>(
+// Writes the message that packets carry which were opened.
+fn write_one<R: Machine>(
     rt: &R,
-    words: &OneWords<'_>,
+    joining: &Joining<'_>,
     source: &mut Packets<R>,
 ) -> Result<Status, Failure> {
     let mut out = output(rt)?;
-    let joined = join_as(rt.alloc(), &words.wanted, words.any, source, &mut out);
-    let failed = matches!(joined, Err(StreamFault::Read));
-    let failure = packets_end(rt, words.voice, source, words.files, failed);
-    let finished = first_failure(finish(rt, out), failure);
-    let status = status_of(rt, words, finished, &joined);
-    drop(joined);
-    status
-}
-
-// The status of a join that ended so, once its output was finished.
-fn status_of(
-    rt: &(impl Eprint + AllocGlobal),
-    words: &OneWords<'_>,
-    finished: Result<(), Failure>,
-    joined: &Result<JoinReport, StreamFault>,
-) -> Result<Status, Failure> {
-    finished?;
-    match joined {
-        Ok(report) => match tell_outcome(rt, words, report) {
-            Ok(status) => Ok(status),
-            Err(_) => Err(Failure::from(Fault::Memory)),
-        },
-        Err(fault) => Err(Failure::from(*fault)),
-    }
+    let words = joining.words;
+    let joined = join_as(rt.alloc(), &joining.wanted, words.any, source, &mut out);
+    let report = carried_ended(rt, joining.voice, source, &words.files, out, joined)?;
+    let status = tell_outcome(rt, joining, &report);
+    drop(report);
+    Ok(status?)
 }
 
 // The status of a join that ended so, after standard error was told what isn't whole, or isn't all,
@@ -123,21 +110,21 @@ fn status_of(
 // error is out of memory.
 fn tell_outcome(
     rt: &(impl Eprint + AllocGlobal),
-    words: &OneWords<'_>,
+    joining: &Joining<'_>,
     report: &JoinReport,
 ) -> Result<Status, AllocError> {
-    let wanted = &words.wanted;
+    let wanted = &joining.wanted;
     let status = match (report.end, wanted.name) {
         (Some(end), Some(name)) => {
             let gathering = report.gatherings.kept.get(&name);
-            tell_end(rt, words, name, end, gathering)?
+            tell_end(rt, joining, name, end, gathering)?
         }
         (Some(end), None) => match report.gatherings.kept.first_key_value() {
-            Some((name, gathering)) => tell_end(rt, words, *name, end, Some(gathering))?,
+            Some((name, gathering)) => tell_end(rt, joining, *name, end, Some(gathering))?,
             None => Status::Refused,
         },
         (None, _) => {
-            tell_each(rt, words, report)?;
+            tell_each(rt, joining, report)?;
             Status::Refused
         }
     };
@@ -145,7 +132,13 @@ fn tell_outcome(
     if !loses && matches!(report.end, Some(JoinEnd::Written(_))) {
         return Ok(status);
     }
-    tell_skips(rt, words.user, wanted, words.span.from, &report.skips)?;
+    tell_skips(
+        rt,
+        joining.user,
+        wanted,
+        joining.words.span.from,
+        &report.skips,
+    )?;
     Ok(if loses { Status::Refused } else { status })
 }
 
@@ -168,23 +161,23 @@ pub fn tell_skips(
 // Says of each transaction what isn't whole. The only error is out of memory.
 fn tell_each(
     rt: &(impl Eprint + AllocGlobal),
-    words: &OneWords<'_>,
+    joining: &Joining<'_>,
     report: &JoinReport,
 ) -> Result<(), AllocError> {
     let alloc = rt.alloc();
-    let reading = &words.wanted.reading;
+    let reading = &joining.wanted.reading;
     let direction = reading.direction.word();
     if report.gatherings.kept.is_empty() {
         return tell_none(rt, reading, &report.skips);
     }
     for (name, gathering) in report.gatherings.kept.iter() {
-        let end = end_of(alloc, reading, words.any, gathering)?;
+        let end = end_of(alloc, reading, joining.words.any, gathering)?;
         if let JoinEnd::Written(_) = end {
-            let id = name_text(alloc, source_of(words.user, reading), *name)?;
+            let id = name_text(alloc, source_of(joining.user, reading), *name)?;
             let text = format!(in alloc; "{direction} {id}: whole, --id {id} writes it");
             tell(rt, text)?;
         }
-        tell_end(rt, words, *name, end, Some(gathering))?;
+        tell_end(rt, joining, *name, end, Some(gathering))?;
     }
     if report.gatherings.has_more {
         let text = "parts of more messages came: --id ID chooses one";
@@ -212,24 +205,24 @@ pub fn tell_none(
 // gives the status of that. The only error is out of memory.
 fn tell_end(
     rt: &(impl Eprint + AllocGlobal),
-    words: &OneWords<'_>,
+    joining: &Joining<'_>,
     name: Name,
     end: JoinEnd,
     gathering: Option<&Gathering>,
 ) -> Result<Status, AllocError> {
     let alloc = rt.alloc();
-    let reading = &words.wanted.reading;
-    let who = who(alloc, words.user, reading, Some(name))?;
-    let against = tell_size(rt, words, &who, gathering)?;
+    let reading = &joining.wanted.reading;
+    let who = who(alloc, joining.user, reading, Some(name))?;
+    let against = tell_size(rt, joining, &who, gathering)?;
     match end {
-        JoinEnd::Written(_) if words.first => return Ok(Status::Done),
+        JoinEnd::Written(_) if joining.words.first => return Ok(Status::Done),
         JoinEnd::Written(_) if against.is_none() => return Ok(Status::Done),
         JoinEnd::Written(_) | JoinEnd::BrokenOff => {}
         JoinEnd::Unfit(misfit) => tell(rt, unfit_text(alloc, &who, misfit))?,
         JoinEnd::Missing => tell(rt, missing_text(alloc, &who, gathering))?,
     }
     if let Some(behind) = against {
-        let place = behind.saturating_add(words.span.from.unwrap_or(0));
+        let place = behind.saturating_add(joining.words.span.from.unwrap_or(0));
         let text = match end {
             JoinEnd::BrokenOff => contradicting(alloc, place)?,
             _ => foreign(alloc, place)?,
@@ -254,15 +247,15 @@ fn foreign(alloc: Global, place: u64) -> Result<String, AllocError> {
 // out of memory.
 fn tell_size(
     rt: &(impl Eprint + AllocGlobal),
-    words: &OneWords<'_>,
+    joining: &Joining<'_>,
     who: &str,
     gathering: Option<&Gathering>,
 ) -> Result<Option<u64>, AllocError> {
     let Some(gathering) = gathering else {
         return Ok(None);
     };
-    let given = words.wanted.reading.part_size;
-    if let (true, None, Some(size)) = (words.voice.tells(), given, gathering.came.size()) {
+    let given = joining.wanted.reading.part_size;
+    if let (true, None, Some(size)) = (joining.voice.tells(), given, gathering.came.size()) {
         let octets = octets_word(size);
         tell(
             rt,

@@ -10,18 +10,13 @@ mod extract_joins;
 mod extract_notices;
 mod extracts;
 mod joins;
-mod layout_joins;
 mod placed_joins;
 mod split_eaches;
 mod splits;
 
-pub use eaches::join_each;
 pub use extracts::extract;
 pub use joins::join;
-pub use layout_joins::join as join_layout;
-pub use lpt_command_line::{
-    ExtractWords, JoinLayoutWords, JoinWords, SplitEachWords, SplitOneWords,
-};
+pub use lpt_command_line::{ExtractWords, JoinWords, SplitEachWords, SplitOneWords};
 pub use lpt_events::Config;
 pub use lpt_io::{Failure, Machine, Status, Voice};
 pub use split_eaches::split_all;

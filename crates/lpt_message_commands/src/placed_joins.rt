@@ -7,8 +7,9 @@ ghost use Rattle.lpt_stream.specs.Pieces.{IsSealedBy};
 ghost use Rattle.std.specs.Prelude.{◌≡◌, ◌⊎◌, IfErr, IfOk};
 ghost use Rattle.lpt_stream.specs.declared.piece_kind.PieceKind.TheVariants.{Whole};
 
-use crate::eaches::{EachWords, MachineShelf, missing_of};
-use lpt_carried::{Name, Reading, Skips, Wanted, carried_in};
+use crate::eaches::{MachineShelf, missing_of};
+use crate::joins::Joining;
+use lpt_carried::{Name, Skips, Wanted, carried_in};
 use lpt_io::{Machine, Packets, write_all_out};
 use lpt_layout_each::{CameAs, HeldsAs, NewsAs, Shelf, TakerAs, leave_as};
 use lpt_layout_join::Nowhere;
@@ -23,20 +24,28 @@ use std::collections::BTreeMap;
 /// Errors: `Read` if a read failed; `Memory`; `Write`, also if a line couldn't be printed.
 pub(crate) fn write_placed<'a, R: Machine>(
     rt: &'a R,
-    words: EachWords<'a>,
+    joining: Joining<'a>,
+    path: &'a str,
     source: &mut Packets<R>,
     shelf: MachineShelf<'a, R>,
 ) -> (Result<Skips, StreamFault>, MachineShelf<'a, R>) {
     let alloc = rt.alloc();
     let mut shelves = Placed {
         rt,
-        words,
+        joining,
+        path,
         place: 0,
         firsts: BTreeMap::new(alloc),
         counts: BTreeMap::new(alloc),
         shelf,
     };
-    let ended = each_placed(alloc, words.reading, words.any, source, &mut shelves);
+    let ended = each_placed(
+        alloc,
+        joining.wanted,
+        joining.words.any,
+        source,
+        &mut shelves,
+    );
     let Placed { shelf, .. } = shelves;
     (ended, shelf)
 }
@@ -45,16 +54,13 @@ pub(crate) fn write_placed<'a, R: Machine>(
 // passed over.
 fn each_placed<R: Machine>(
     alloc: Global,
-    reading: Reading,
+    wanted: Wanted,
     any: bool,
     source: &mut Packets<R>,
     shelves: &mut Placed<'_, R>,
 ) -> Result<Skips, StreamFault> {
     let first = Placer {
-        wanted: Wanted {
-            reading,
-            name: None,
-        },
+        wanted,
         any,
         helds: HeldsAs::new(alloc),
         skips: Skips::new(),
@@ -176,7 +182,9 @@ impl<'a, R: Machine> Taker<Nowhere, Placed<'a, R>> for Placer {
 #[derive(Drop)]
 struct Placed<'a, R: Machine> {
     rt: &'a R,
-    words: EachWords<'a>,
+    joining: Joining<'a>,
+    // The path of the folder.
+    path: &'a str,
     // The place of the packet that came last.
     place: u64,
     // That of the packet with which the first part of a name came last.
@@ -191,7 +199,7 @@ impl<R: Machine> Placed<'_, R> {
     fn come_to(&mut self, place: u64, name: Name, number: u32) -> Result<(), StreamFault>
         ensures fault { IfErr result (λ e. e ≡ StreamFault.Memory) }
     {
-        self.place = place.saturating_add(self.words.span.from.unwrap_or(0));
+        self.place = place.saturating_add(self.joining.words.span.from.unwrap_or(0));
         if number == 1 {
             let place = self.place;
             if self.firsts.insert(name, place).is_err() {
@@ -219,7 +227,7 @@ impl<R: Machine> Placed<'_, R> {
 
     // The line of a message that became whole with the last packet.
     fn whole_line(&self, alloc: Global, name: Name) -> Result<String, AllocError> {
-        let way = self.words.reading.direction.word();
+        let way = self.joining.wanted.reading.direction.word();
         let Name { user, id } = name;
         let at = self.place;
         let from = self.firsts.get(&name).copied().unwrap_or(at);
@@ -228,10 +236,10 @@ impl<R: Machine> Placed<'_, R> {
 
     // The line of parts that never became whole: these came.
     fn lost_line(&self, alloc: Global, name: Name, came: &CameAs) -> Result<String, AllocError> {
-        let way = self.words.reading.direction.word();
+        let way = self.joining.wanted.reading.direction.word();
         let Name { user, id } = name;
         let from = came.began().unwrap_or(0);
-        let from = from.saturating_add(self.words.span.from.unwrap_or(0));
+        let from = from.saturating_add(self.joining.words.span.from.unwrap_or(0));
         let list = missing_of(alloc, came)?;
         format!(in alloc;
             "{{\"name\":\"{way} {user}/{id}\",\"from\":{from},\"missing\":\"{list}\"}}\n"
@@ -245,7 +253,7 @@ impl<R: Machine> Placed<'_, R> {
         if gives {
             self.counts.insert(name, before.saturating_add(1))?;
         }
-        let (folder, way) = (self.words.path, self.words.reading.direction.word());
+        let (folder, way) = (self.path, self.joining.wanted.reading.direction.word());
         let Name { user, id } = name;
         format!(in alloc; "{folder}/{way}-{user}-{id}.{before}")
     }

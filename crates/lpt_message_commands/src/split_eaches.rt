@@ -7,13 +7,12 @@ use lpt_carried::Tailored;
 use lpt_command_line::{SplitEachWords, WideName, WordFault};
 use lpt_events::Config;
 use lpt_io::{
-    Failure, Fault, Incoming, Machine, Status, finish, first_failure, open_input, output,
-    own_or_read, read_failure, tell_place, word_refused,
+    Failure, Incoming, Machine, Status, copied_ended, open_input, output, own_or_read, tell_place,
+    word_refused,
 };
 use lpt_layout::Width;
 use lpt_packet::Direction;
 use lpt_split::{EachEnd, EachSplit, EachWanted, Pick, SplitEnd, greatest, split_each};
-use lpt_text::StreamFault;
 use std::alloc::{AllocError, Global};
 
 /// Writes the packets of the parts of each message of a stream: by the layouts of a file if one is
@@ -36,10 +35,7 @@ pub fn split_all<R: Machine>(
         Ok(name) => name,
         Err(fault) => return Ok(word_refused(rt, rt.alloc(), &fault)),
     };
-    let picks = match picks_of(rt.alloc(), words) {
-        Ok(picks) => picks,
-        Err(_) => return Err(Failure::from(Fault::Memory)),
-    };
+    let picks = picks_of(rt.alloc(), words)?;
     let mut source = open_input(rt, words.split.file)?;
     let status = split_from(rt, config, tailored, words, name, &picks, &mut source);
     drop(source);
@@ -114,18 +110,8 @@ fn split_from<R: Machine>(
     let wanted = wanted_of(config, tailored, words, name, &*picks, &fill);
     let mut out = output(rt)?;
     let split = split_each(rt.alloc(), &wanted, source, &mut out);
-    let failure = match split {
-        Err(StreamFault::Read) => Some(read_failure(rt, source.inner(), words.split.file)),
-        _ => None,
-    };
-    first_failure(finish(rt, out), failure)?;
-    match split {
-        Ok(split) => match tell_outcome(rt, &wanted, words, split) {
-            Ok(status) => Ok(status),
-            Err(_) => Err(Failure::from(Fault::Memory)),
-        },
-        Err(fault) => Err(Failure::from(fault)),
-    }
+    let split = copied_ended(rt, source.inner(), words.split.file, out, split)?;
+    Ok(tell_outcome(rt, &wanted, words, split)?)
 }
 
 // The status of a split that ended so, after it was told what wasn't split. The only error is out

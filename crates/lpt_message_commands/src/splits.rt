@@ -4,20 +4,18 @@ ghost use Rattle.std.specs.Prelude.{IfOk};
 ghost use Rattle.lpt_events.specs.Configs.{IsConfig};
 ghost use Rattle.lpt_layout.specs.Parts.{IsPartSizeAs};
 
-use crate::layout_joins::user_of;
 use lpt_carried::{Layouts, Tailored};
 use lpt_command_line::{SplitOneWords, SplitWords, WideName, WordFault, name_within};
 use lpt_events::Config;
 use lpt_io::{
-    Failure, Incoming, Keeping, Machine, Status, finish, first_failure, octets_word, open_input,
-    output, own_or_read, read_failure, reading_of, tell_place, word_refused,
+    Failure, Incoming, Keeping, Machine, Status, copied_ended, octets_word, open_input, output,
+    own_or_read, reading_of, tell_text, word_refused,
 };
 use lpt_layout::Width;
 use lpt_layout_join::{MisfitAs, unfit};
 use lpt_packet::LONGEST_PACKET;
 use lpt_split::{Form, SplitEnd, Wanted, Writing, greatest, split_message};
 use lpt_stream::whole_length;
-use lpt_text::StreamFault;
 use std::alloc::{AllocError, Global};
 
 /// The most octets of time or spare octets.
@@ -76,9 +74,7 @@ pub fn split<R: Machine>(
     let fill = Fill::new(config);
     let wanted = wanted_of(config, tailored, &*words, name, &fill);
     let message = open_input(rt, words.split.file)?;
-    let Ok(mut source) = Keeping::new(rt.alloc(), message, LONGEST_PACKET) else {
-        return Err(Failure::from(StreamFault::Memory));
-    };
+    let mut source = Keeping::new(rt.alloc(), message, LONGEST_PACKET)?;
     let status = split_from(rt, config, &layouts, words, &wanted, &mut source);
     drop(source);
     status
@@ -108,11 +104,32 @@ fn wanted_of<'a>(
 ///
 /// Errors: `Id`.
 pub fn name_in<'a>(words: &SplitWords<'a>, tailored: &Tailored) -> Result<WideName, WordFault<'a>> {
-    let source = match tailored.packets.user {
+    name_by("<ID>", words.name, tailored.packets.user, tailored.parts.id)
+}
+
+/// The name that a word at this place gives, if fields of these widths have room for its source and
+/// its identifier.
+///
+/// Errors: `Id`.
+pub fn name_by<'a>(
+    place: &'static str,
+    word: &'a str,
+    user: Width,
+    id: Width,
+) -> Result<WideName, WordFault<'a>> {
+    let source = match user {
         Width::Absent => u32::MAX,
         width => greatest(width),
     };
-    name_within("<ID>", words.name, source, greatest(tailored.parts.id))
+    name_within(place, word, source, greatest(id))
+}
+
+/// The user that is meant if this source is configured: 0 if the layout has no field for it.
+pub fn user_of(given: WideName, source: u32, width: Width) -> u32 {
+    match width {
+        Width::Absent => 0,
+        _ => given.source.unwrap_or(source),
+    }
 }
 
 /// How packets of this layout are written that go under this name.
@@ -163,19 +180,14 @@ fn split_from<R: Machine>(
 ) -> Result<Status, Failure> {
     let mut out = output(rt)?;
     let split = split_message(rt.alloc(), wanted, source, &mut out);
-    let failure = match split {
-        Err(StreamFault::Read) => Some(read_failure(rt, source.source().inner(), words.split.file)),
-        _ => None,
-    };
-    first_failure(finish(rt, out), failure)?;
-    match split {
-        Ok(SplitEnd::Written(_)) => {
+    let input = source.source().inner();
+    match copied_ended(rt, input, words.split.file, out, split)? {
+        SplitEnd::Written(_) => {
             let (size, kept) = (wanted.writing.part_size, source.octets_kept());
             tell_misfit(rt, config, layouts, &words.split, size, kept);
             Ok(Status::Done)
         }
-        Ok(end) => Ok(unsplit(rt, wanted, words, end)),
-        Err(fault) => Err(Failure::from(fault)),
+        end => Ok(unsplit(rt, wanted, words, end)),
     }
 }
 
@@ -213,9 +225,7 @@ fn tell_misfit(
             format!(in rt.alloc(); "the message is no packet (fault {code} {name}){advice}{each}")
         }
     };
-    if let Ok(text) = text {
-        tell_place(rt, text.as_str());
-    }
+    tell_text(rt, text);
 }
 
 // The status of a split that ended so, after it was told what wasn't split.
@@ -225,9 +235,8 @@ fn unsplit(
     words: &SplitOneWords<'_>,
     end: SplitEnd,
 ) -> Status {
-    if let Ok(text) = reason(rt.alloc(), wanted.writing.part_size, words.parts, end) {
-        tell_place(rt, text.as_str());
-    }
+    let size = wanted.writing.part_size;
+    tell_text(rt, reason(rt.alloc(), size, words.parts, end));
     status_of(end)
 }
 
