@@ -1,11 +1,8 @@
 //! The checksum that a check report has of a file's octets.
 
 use lpt_command_line::ChecksumWords;
-use lpt_io::{
-    Failure, Fault, Machine, STANDARD, Status, file_at, finish, octets_word, output, tell_text,
-};
+use lpt_io::{Failure, Machine, STANDARD, Status, file_at, octets_word, tell_text, write_all_out};
 use lpt_packet::crc16;
-use lpt_text::write_out;
 
 /// How many addresses a memory has at most. Of a file with more octets not all may be read.
 const ADDRESSES: u64 = 1 << 32;
@@ -32,13 +29,8 @@ fn write_checksum(
         return Ok(Status::Refused);
     };
     let checksum = crc16(named);
-    let Ok(line) = format!(in rt.alloc(); "{checksum:04x}\n") else {
-        return Err(Failure::from(Fault::Memory));
-    };
-    let mut out = output(rt)?;
-    let put = write_out(&mut out, line.as_bytes());
-    finish(rt, out)?;
-    put?;
+    let line = format!(in rt.alloc(); "{checksum:04x}\n")?;
+    write_all_out(rt, line.as_bytes())?;
     Ok(Status::Done)
 }
 

@@ -3,13 +3,12 @@
 ghost use Rattle.lpt_events.specs.Configs.{IsConfig};
 
 use crate::layouts::own_or_given;
-use lpt_carried::Layout;
 use lpt_command_line::CompareWords;
 use lpt_compare::{Checked, Checks, Image, Others, read_checks};
 use lpt_events::Config;
 use lpt_io::{
-    Failure, Machine, Output, Packets, Status, Voice, file_at, finish, name_of, opened_packets,
-    output, packets_end, status_of, tell_no_packets, tell_text,
+    Failure, Machine, Output, Status, Voice, file_at, name_of, opened_packets, output, read_ended,
+    status_of, tell_no_packets, tell_text, written_ended,
 };
 use lpt_text::{StreamFault, write_out};
 use std::alloc::{AllocError, Global};
@@ -35,35 +34,13 @@ pub fn compare<R: Machine>(
     let mut reports = opened_packets(rt, voice, &words.reports, None, None)?;
     let octets = file_at(rt, words.file)?;
     let layout = &layouts.telemetry.packets;
-    let checks = checks_in(rt, voice, layout, config.apid, words, &mut reports);
+    let read = read_checks(rt.alloc(), layout, config.apid, words.memory, &mut reports);
+    let checks = read_ended(rt, voice, &reports, &words.reports, read);
     drop(reports);
     let checks = checks?;
     let status = tell_checks(rt, voice, words, octets.as_slice(), checks);
     drop(octets);
     status
-}
-
-// The areas of the memory's check reports of this layout among packets that were opened.
-fn checks_in<R: Machine>(
-    rt: &R,
-    voice: Voice,
-    layout: &Layout,
-    apid: u16,
-    words: &CompareWords<'_>,
-    source: &mut Packets<R>,
-) -> Result<Checks, Failure> {
-    let read = read_checks(rt.alloc(), layout, apid, words.memory, source);
-    let failed = matches!(read, Err(StreamFault::Read));
-    let failure = packets_end(rt, voice, source, &words.reports, failed);
-    match (read, failure) {
-        (Ok(checks), None) => Ok(checks),
-        (Ok(checks), Some(failure)) => {
-            drop(checks);
-            Err(failure)
-        }
-        (Err(_), Some(failure)) => Err(failure),
-        (Err(fault), None) => Err(Failure::from(fault)),
-    }
 }
 
 // Writes the lines, and gives whether all is as it should be.
@@ -88,8 +65,7 @@ fn tell_checks(
     };
     let mut out = output(rt)?;
     let written = write_lines(rt.alloc(), words.memory, &image, &areas, &mut out);
-    finish(rt, out)?;
-    let agree = written?;
+    let agree = written_ended(rt, out, written)?;
     let open = image.first_open(areas);
     let sound = damaged == 0 && stray == 0 && unread == 0 && parts == 0;
     let is_done = agree && sound && open.is_none() && !octets.is_empty();
@@ -98,9 +74,7 @@ fn tell_checks(
     if voice.tells() || !is_done {
         tell_others(rt, others);
     }
-    if let Some(text) = lacking(rt.alloc(), words, octets, open) {
-        tell_text(rt, text);
-    }
+    tell_lacking(rt, words, octets, open);
     Ok(status_of(!is_done))
 }
 
@@ -131,21 +105,27 @@ fn tell_passed(rt: &(impl Eprint + AllocGlobal), unread: u64, parts: u64) {
     }
 }
 
-// What is lacking of a comparison, if no report agrees at this address: that, or that the file
+// Tells what is lacking of a comparison, if no report agrees at this address: that, or that the file
 // has no octets to compare.
-fn lacking(
-    alloc: Global,
+fn tell_lacking(
+    rt: &(impl Eprint + AllocGlobal),
     words: &CompareWords<'_>,
     octets: &[u8],
     open: Option<u64>,
-) -> Option<Result<String, AllocError>> {
+) {
+    let memory = words.memory;
     if octets.is_empty() {
         let name = name_of(words.file);
-        return Some(format!(in alloc; "{name}: there are no octets to compare"));
+        tell_text(
+            rt,
+            format!(in rt.alloc(); "{name}: there are no octets to compare"),
+        );
+    } else if let Some(address) = open {
+        let text = format!(in rt.alloc();
+            "memory {memory}: no agreeing check report came for address {address}"
+        );
+        tell_text(rt, text);
     }
-    let address = open?;
-    let memory = words.memory;
-    Some(format!(in alloc; "memory {memory}: no agreeing check report came for address {address}"))
 }
 
 // Writes a line for each area, and gives whether all of them agree.
@@ -160,9 +140,7 @@ fn write_lines<R: Print>(
     for check in checks {
         let found = image.checksum(check);
         agree = agree && found == Some(check.checksum);
-        let Ok(line) = line_of(alloc, memory, check, found) else {
-            return Err(StreamFault::Memory);
-        };
+        let line = line_of(alloc, memory, check, found)?;
         write_out(out, line.as_bytes())?;
     }
     Ok(agree)

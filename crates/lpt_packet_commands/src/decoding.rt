@@ -7,8 +7,8 @@ use crate::layouts::tell_hint;
 use lpt_command_line::DecodeWords;
 use lpt_events::{Config, part_kind};
 use lpt_io::{
-    Failure, Fault, Incoming, Machine, STANDARD, Status, finish, layouts_at, open_input, output,
-    read_failure, status_of, tell_text,
+    Failure, Fault, Incoming, Machine, STANDARD, Status, layouts_at, open_input, output,
+    read_failure, status_of, tell_text, write_all_out, written_ended,
 };
 use lpt_list::{Form, decode_layouts, hint_of, is_read, print_refused};
 use lpt_packet::{Direction, Octets, Packet, PacketFault, PacketKind, Seen, read_packet};
@@ -87,32 +87,26 @@ pub fn decode<R: Machine>(
     };
     let octets = octets.as_slice();
     match words.layout {
-        Some(path) if octets.len() >= LEAST_PACKET => decode_as(rt, path, octets),
-        Some(path) => decode_short(rt, path, octets, config.part_size),
+        Some(path) => decode_as(rt, path, octets, config.part_size),
         None if words.more => decode_more(rt, octets, config.part_size),
         None => decode_octets(rt, octets, "", config.part_size),
     }
 }
 
-// Prints what octets are that are too few for a packet, once the layouts at this path were read.
-fn decode_short<R: Machine>(rt: &R, path: &str, octets: &[u8], p: u32) -> Result<Status, Failure>
+// Prints what octets are as a packet of the layouts of the file at this path, or that they are too
+// few for one.
+fn decode_as<R: Machine>(rt: &R, path: &str, octets: &[u8], p: u32) -> Result<Status, Failure>
     requires { IsPartSize p }
 {
-    let Some(_layouts) = layouts_at(rt, path)? else {
-        return Ok(Status::Unreadable);
-    };
-    decode_octets(rt, octets, "", p)
-}
-
-// Prints what octets are as a packet of the layouts of the file at this path.
-fn decode_as<R: Machine>(rt: &R, path: &str, octets: &[u8]) -> Result<Status, Failure> {
     let Some(layouts) = layouts_at(rt, path)? else {
         return Ok(Status::Unreadable);
     };
+    if octets.len() < LEAST_PACKET {
+        return decode_octets(rt, octets, "", p);
+    }
     let mut out = output(rt)?;
     let decoded = decode_layouts(rt.alloc(), &layouts, octets, &mut out);
-    finish(rt, out)?;
-    decoded?;
+    written_ended(rt, out, decoded)?;
     tell_hint(rt, hint_of(&layouts, octets));
     Ok(status_of(!is_read(&layouts, octets)))
 }
@@ -127,14 +121,14 @@ fn decode_octets(
     requires { IsPartSize p }
 {
     let mut out = output(rt)?;
-    let decoded = lpt_script::decode(rt.alloc(), octets, p, &mut out);
-    let written = match decoded {
-        Ok(_) => write_out(&mut out, behind.as_bytes()),
-        Err(_) => Ok(()),
+    let decoded = match lpt_script::decode(rt.alloc(), octets, p, &mut out) {
+        Ok(is_faulty) => match write_out(&mut out, behind.as_bytes()) {
+            Ok(()) => Ok(is_faulty),
+            Err(fault) => Err(fault),
+        },
+        Err(fault) => Err(fault),
     };
-    finish(rt, out)?;
-    let is_faulty = decoded?;
-    written?;
+    let is_faulty = written_ended(rt, out, decoded)?;
     tell_size(rt, octets, p);
     Ok(status_of(is_faulty))
 }
@@ -150,10 +144,8 @@ fn decode_more(
     if octets.len() >= LEAST_PACKET && matches!(read_packet(octets), Err(PacketFault::Segmented)) {
         return decode_segment(rt, octets);
     }
-    match print_areas(rt.alloc(), octets) {
-        Ok(areas) => decode_octets(rt, octets, areas.as_str(), p),
-        Err(_) => Err(Failure::from(Fault::Memory)),
-    }
+    let areas = print_areas(rt.alloc(), octets)?;
+    decode_octets(rt, octets, areas.as_str(), p)
 }
 
 // Prints which segment of a message in several packets octets are.
@@ -161,17 +153,10 @@ fn decode_segment(rt: &(impl Print + AllocGlobal), octets: &[u8]) -> Result<Stat
     requires { 7 ≤ length octets.now }
 {
     let fault = PacketFault::Segmented;
-    let Ok(said) = print_refused(rt.alloc(), Form::Text, octets, fault) else {
-        return Err(Failure::from(Fault::Memory));
-    };
+    let said = print_refused(rt.alloc(), Form::Text, octets, fault)?;
     let said = said.as_str();
-    let Ok(line) = format!(in rt.alloc(); "packet{said}\n") else {
-        return Err(Failure::from(Fault::Memory));
-    };
-    let mut out = output(rt)?;
-    let written = write_out(&mut out, line.as_bytes());
-    finish(rt, out)?;
-    written?;
+    let line = format!(in rt.alloc(); "packet{said}\n")?;
+    write_all_out(rt, line.as_bytes())?;
     Ok(Status::Refused)
 }
 
@@ -180,7 +165,7 @@ fn decode_segment(rt: &(impl Print + AllocGlobal), octets: &[u8]) -> Result<Stat
 //
 // Errors: as of `standard_text`; `Memory`.
 fn octets_given<R: Machine>(rt: &R, hex: Option<&str>) -> Result<Option<Octets>, Failure> {
-    let given = match hex {
+    match hex {
         // As in a script.
         Some("-") => Ok(Some(Octets::from_vec(Vec::new(rt.alloc())))),
         Some(word) => octets_in(rt, Given::Word, word.as_bytes()),
@@ -188,8 +173,7 @@ fn octets_given<R: Machine>(rt: &R, hex: Option<&str>) -> Result<Option<Octets>,
             let text = standard_text(rt)?;
             octets_in(rt, Given::Input, text.as_slice())
         }
-    };
-    Ok(given?)
+    }
 }
 
 // The text of standard input.
@@ -221,15 +205,13 @@ fn octets_in(
     rt: &(impl Eprint + AllocGlobal),
     given: Given,
     text: &[u8],
-) -> Result<Option<Octets>, Fault> {
+) -> Result<Option<Octets>, Failure> {
     let mut digits = Vec::new(rt.alloc());
     let mut place = 0u64;
     for octet in text {
         place = place.saturating_add(1);
         if octet.is_ascii_hexdigit() {
-            if digits.push(*octet).is_err() {
-                return Err(Fault::Memory);
-            }
+            digits.push(*octet)?;
         } else if !(given == Given::Input && octet.is_ascii_whitespace()) {
             refuse_hex(rt, given.no_digit(rt, place));
             return Ok(None);
@@ -238,18 +220,11 @@ fn octets_in(
     if digits.is_empty() && given == Given::Input {
         return Ok(Some(Octets::from_vec(digits)));
     }
-    if digits.is_empty() {
-        refuse_hex(rt, given.odd(rt, 0));
-        return Ok(None);
+    let octets = read_hex(rt.alloc(), digits.as_slice())?;
+    if octets.is_none() {
+        refuse_hex(rt, given.odd(rt, digits.len()));
     }
-    match read_hex(rt.alloc(), digits.as_slice()) {
-        Ok(Some(octets)) => Ok(Some(octets)),
-        Ok(None) => {
-            refuse_hex(rt, given.odd(rt, digits.len()));
-            Ok(None)
-        }
-        Err(_) => Err(Fault::Memory),
-    }
+    Ok(octets)
 }
 
 // Says on standard error that a text isn't octets, and where.
@@ -286,20 +261,15 @@ fn tell_size(rt: &(impl Eprint + AllocGlobal), octets: &[u8], p: u32)
 
 /// The kind of part that a packet carries, and the message's body; none if it carries none.
 pub fn part_body<'a>(packet: &Packet<'a>) -> Option<(Kind, &'a [u8])> {
-    match packet.kind {
-        PacketKind::Tc => match read_tc(packet) {
-            Ok((head, body)) => match part_kind(Direction::Up, head.service, head.subtype) {
-                Some(kind) => Some((kind, body)),
-                None => None,
-            },
-            Err(_) => None,
-        },
-        PacketKind::Tm => match read_tm(packet) {
-            Ok((head, body)) => match part_kind(Direction::Down, head.service, head.subtype) {
-                Some(kind) => Some((kind, body)),
-                None => None,
-            },
-            Err(_) => None,
-        },
-    }
+    let (direction, service, subtype, body) = match packet.kind {
+        PacketKind::Tc => {
+            let (head, body) = read_tc(packet).ok()?;
+            (Direction::Up, head.service, head.subtype, body)
+        }
+        PacketKind::Tm => {
+            let (head, body) = read_tm(packet).ok()?;
+            (Direction::Down, head.service, head.subtype, body)
+        }
+    };
+    Some((part_kind(direction, service, subtype)?, body))
 }

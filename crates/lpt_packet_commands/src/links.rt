@@ -4,11 +4,9 @@ use crate::layouts::own_or_given;
 use lpt_carried::Layouts;
 use lpt_command_line::LinkWords;
 use lpt_io::{
-    Failure, Machine, Packets, Status, Voice, finish, first_failure, opened_packets, output,
-    packets_end, tell_text,
+    Failure, Machine, Packets, Status, Voice, carried_ended, opened_packets, output, tell_text,
 };
 use lpt_lossy::{CrossingCounts, Dice, LossyEnd, LossyLink, Odds, lossy_stream};
-use lpt_text::StreamFault;
 
 /// Carries packets over a link that loses, and tells how many were lost, repeated and so on. Which
 /// packets have a checksum is said by a file of layouts if one is given, and otherwise by the
@@ -50,13 +48,8 @@ fn carry_packets<R: Machine>(
     let mut out = output(rt)?;
     let carried = lossy_stream(rt.alloc(), &link, &mut dice, source, &mut out);
     drop(dice);
-    let failed = matches!(carried, Err(StreamFault::Read));
-    let failure = packets_end(rt, voice, source, &words.files, failed);
-    first_failure(finish(rt, out), failure)?;
-    match carried {
-        Ok(end) => Ok(link_status(rt, voice, end)),
-        Err(fault) => Err(Failure::from(fault)),
-    }
+    let end = carried_ended(rt, voice, source, &words.files, out, carried)?;
+    Ok(link_status(rt, voice, end))
 }
 
 // The status of a run that ended so, once it was told how many packets were lost and so on, and

@@ -10,14 +10,13 @@ use lpt_carried::{Layouts, fitting_size};
 use lpt_command_line::ListWords;
 use lpt_events::Config;
 use lpt_io::{
-    Failure, Keeping, Machine, Packets, Status, Voice, finish, first_failure, opened_packets,
-    output, own_or_read, packets_end, tell_text,
+    Failure, Keeping, Machine, Packets, Status, Voice, carried_ended, opened_packets, output,
+    own_or_read, tell_text,
 };
 use lpt_list::{Form, ListEnd, Listed, Tally, list_stream};
 use lpt_packet::{ERROR_CONTROL, PRIMARY_HEADER, Seen, read_packet};
 use lpt_part::{Kind, read_part};
 use lpt_stream::whole_length;
-use lpt_text::StreamFault;
 
 /// How many octets in front are looked at for parts of another layout.
 const FRONT: usize = 131_072;
@@ -41,9 +40,7 @@ pub fn list<R: Machine>(
     };
     let span = words.span;
     let packets = opened_packets(rt, voice, &words.files, span.from, span.to)?;
-    let Ok(mut source) = Keeping::new(rt.alloc(), packets, FRONT) else {
-        return Err(Failure::from(StreamFault::Memory));
-    };
+    let mut source = Keeping::new(rt.alloc(), packets, FRONT)?;
     let status = list_packets(rt, voice, config, &layouts, words, &mut source);
     drop(source);
     status
@@ -73,28 +70,21 @@ fn list_packets<R: Machine>(
         source,
         &mut out,
     );
-    let failed = matches!(listed, Err(StreamFault::Read));
-    let failure = packets_end(rt, voice, source.source(), &words.files, failed);
-    first_failure(finish(rt, out), failure)?;
-    match listed {
-        Ok(listed) => {
-            if voice.tells() {
-                let is_given = words.layout.is_some();
-                tell_others(
-                    rt,
-                    config.part_size,
-                    is_given,
-                    layouts,
-                    source.octets_kept(),
-                );
-            }
-            let is_short = source.source().before() > 0;
-            match list_status(rt, voice, listed) {
-                Status::Done if is_short => Ok(Status::Refused),
-                status => Ok(status),
-            }
-        }
-        Err(fault) => Err(Failure::from(fault)),
+    let listed = carried_ended(rt, voice, source.source(), &words.files, out, listed)?;
+    if voice.tells() {
+        let is_given = words.layout.is_some();
+        tell_others(
+            rt,
+            config.part_size,
+            is_given,
+            layouts,
+            source.octets_kept(),
+        );
+    }
+    let is_short = source.source().before() > 0;
+    match list_status(rt, voice, listed) {
+        Status::Done if is_short => Ok(Status::Refused),
+        status => Ok(status),
     }
 }
 

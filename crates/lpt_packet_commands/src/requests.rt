@@ -7,7 +7,9 @@ use crate::layouts::own_or_given;
 use lpt_carried::Layouts;
 use lpt_command_line::{RequestWords, What, WordFault};
 use lpt_events::Config;
-use lpt_io::{Failure, Fault, Machine, Status, file_at, finish, output, tell_place, word_refused};
+use lpt_io::{
+    Failure, Fault, Machine, Status, file_at, output, tell_place, word_refused, written_ended,
+};
 use lpt_layout::{LayoutFault, Width};
 use lpt_layout_requests::{RequestFault, dump_limit, load_limit, write_requests_as};
 use lpt_memory::{AREA_HEADER, AREA_LIMIT, Area, MemoryFault};
@@ -124,11 +126,8 @@ fn put(rt: &(impl Print + AllocGlobal), packets: &[Octets]) -> Result<Status, Fa
             break;
         }
     }
-    finish(rt, out)?;
-    match written {
-        Ok(()) => Ok(Status::Done),
-        Err(fault) => Err(Failure::from(fault)),
-    }
+    written_ended(rt, out, written)?;
+    Ok(Status::Done)
 }
 
 // The requests for what the words ask of the memory, with the octets of the files that they name:
@@ -142,16 +141,7 @@ fn requests_asked<R: Machine>(
 {
     let alloc = rt.alloc();
     match &words.what {
-        What::Load(files) => {
-            let mut areas = Vec::new(alloc);
-            match read_areas(rt, files, &mut areas) {
-                Ok(()) => Ok(loads(alloc, words, each, areas)),
-                Err(failure) => {
-                    drop(areas);
-                    Err(failure)
-                }
-            }
-        }
+        What::Load(files) => Ok(loads(alloc, words, each, read_areas(rt, files)?)),
         What::Dump(places) => Ok(reads(alloc, words, each, Read::Dump, places)),
         What::Check(places) => Ok(reads(alloc, words, each, Read::Check, places)),
     }
@@ -263,19 +253,14 @@ fn ranges_of(alloc: Global, places: &[AreaPlace]) -> Result<Vec<Range>, AllocErr
 }
 
 // The octets of these files, each with its address.
-fn read_areas<R: Machine>(
-    rt: &R,
-    files: &[(u32, &str)],
-    areas: &mut Vec<Area>,
-) -> Result<(), Failure> {
+fn read_areas<R: Machine>(rt: &R, files: &[(u32, &str)]) -> Result<Vec<Area>, Failure> {
+    let mut areas = Vec::new(rt.alloc());
     for (address, file) in files {
         let octets = file_at(rt, file)?;
         let address = *address;
-        if areas.push(Area { address, octets }).is_err() {
-            return Err(Failure::from(Fault::Memory));
-        }
+        areas.push(Area { address, octets })?;
     }
-    Ok(())
+    Ok(areas)
 }
 
 // The places of a dump or a check. The only error is out of memory.

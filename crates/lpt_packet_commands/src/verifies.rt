@@ -4,8 +4,8 @@ use crate::layouts::own_or_given;
 use lpt_carried::{Layout, Layouts};
 use lpt_command_line::VerifyWords;
 use lpt_io::{
-    Failure, Fault, Machine, Packets, Status, Voice, finish, first_failure, name_of,
-    opened_packets, output, packets_end, status_of, tell_no_packets, tell_text,
+    Failure, Fault, Machine, Status, Voice, finish, first_failure, name_of, opened_packets, output,
+    packets_end, read_ended, status_of, tell_no_packets, tell_text, written_ended,
 };
 use lpt_list::Form;
 use lpt_outcomes::{
@@ -13,7 +13,6 @@ use lpt_outcomes::{
     write_outcomes,
 };
 use lpt_text::StreamFault;
-use std::alloc::{AllocError, Global};
 
 /// Says what became of each request, by the reports on it, or writes the packets of those that are
 /// open, and then says what of requests and reports was passed over. Both are read by the layouts
@@ -42,14 +41,8 @@ fn verify_by<R: Machine>(
     let (up, down) = (&layouts.telecommands.packets, &layouts.telemetry.packets);
     let mut reports = opened_packets(rt, voice, &words.reports, None, None)?;
     let mut requests = requests_at(rt, voice, up, words.requests)?;
-    let heard = hear_reports(
-        rt,
-        voice,
-        down,
-        &mut requests.asked,
-        &words.reports,
-        &mut reports,
-    );
+    let read = read_reports(rt.alloc(), down, &mut requests.asked, &mut reports);
+    let heard = read_ended(rt, voice, &reports, &words.reports, read);
     drop(reports);
     let of_reports = heard?;
     if words.open {
@@ -69,36 +62,9 @@ fn requests_at<R: Machine>(
     let paths = [path];
     let mut source = opened_packets(rt, voice, &paths, None, None)?;
     let read = read_requests(rt.alloc(), layout, &mut source);
-    let failed = matches!(read, Err(StreamFault::Read));
-    let failure = packets_end(rt, voice, &source, &paths, failed);
+    let requests = read_ended(rt, voice, &source, &paths, read);
     drop(source);
-    match (read, failure) {
-        (Ok(requests), None) => Ok(requests),
-        (Ok(requests), Some(failure)) => {
-            drop(requests);
-            Err(failure)
-        }
-        (Err(_), Some(failure)) => Err(failure),
-        (Err(fault), None) => Err(Failure::from(fault)),
-    }
-}
-
-// Tells these requests of the reports of this layout among packets that were opened at these paths.
-// Gives what was passed over of those.
-fn hear_reports<R: Machine>(
-    rt: &R,
-    voice: Voice,
-    layout: &Layout,
-    requests: &mut [Asked],
-    paths: &[&str],
-    source: &mut Packets<R>,
-) -> Result<Passed, Failure> {
-    let read = read_reports(rt.alloc(), layout, requests, source);
-    let failed = matches!(read, Err(StreamFault::Read));
-    match packets_end(rt, voice, source, paths, failed) {
-        Some(failure) => Err(failure),
-        None => Ok(read?),
-    }
+    requests
 }
 
 // Tells the requests, and what was passed over, and gives whether nothing is open of them.
@@ -111,8 +77,7 @@ fn tell_requests(
     let form = if words.json { Form::Json } else { Form::Text };
     let mut out = output(rt)?;
     let written = write_outcomes(rt.alloc(), form, &requests.asked, &mut out);
-    finish(rt, out)?;
-    written?;
+    written_ended(rt, out, written)?;
     told_beside(rt, words, requests, of_reports)
 }
 
@@ -159,9 +124,7 @@ fn told_beside(
 ) -> Result<Status, Failure> {
     tell_among_requests(rt, words.requests, requests);
     tell_among_reports(rt, of_reports);
-    let Ok(shared) = count_shared(rt.alloc(), &requests.asked) else {
-        return Err(Failure::from(Fault::Memory));
-    };
+    let shared = count_shared(rt.alloc(), &requests.asked)?;
     if shared != 0 {
         let text = format!(in rt.alloc();
             "{shared} requests share source and ID with another (or are repeats): no report tells \
@@ -183,11 +146,21 @@ fn tell_among_requests(rt: &(impl Eprint + AllocGlobal), path: &str, requests: &
         ..
     } = requests.passed;
     tell_no_packets(rt, "among the requests: ", damaged, stray);
+    let among = "among the requests";
     if foreign != 0 {
-        tell_text(rt, strangers_text(rt.alloc(), foreign));
+        let packets = if foreign == 1 {
+            "packet isn't read as a telecommand"
+        } else {
+            "packets aren't read as telecommands"
+        };
+        tell_text(rt, format!(in rt.alloc(); "{among}: {foreign} {packets}"));
     }
     if parts != 0 {
-        tell_text(rt, parts_text(rt.alloc(), parts));
+        let word = if parts == 1 { "part" } else { "parts" };
+        let text = format!(in rt.alloc();
+            "{among}: {parts} {word}: give the requests themselves, not what split wrote"
+        );
+        tell_text(rt, text);
     }
     if requests.asked.is_empty() {
         let name = name_of(path);
@@ -228,21 +201,4 @@ fn tell_among_reports(rt: &(impl Eprint + AllocGlobal), passed: &Passed) {
         let text = format!(in rt.alloc(); "among the reports: {unread} {reports} read");
         tell_text(rt, text);
     }
-}
-
-// That so many packets among the requests are no telecommands. The only error is out of memory.
-fn strangers_text(alloc: Global, count: u64) -> Result<String, AllocError> {
-    if count == 1 {
-        format!(in alloc; "among the requests: 1 packet isn't read as a telecommand")
-    } else {
-        format!(in alloc; "among the requests: {count} packets aren't read as telecommands")
-    }
-}
-
-// That so many of the requests are parts. The only error is out of memory.
-fn parts_text(alloc: Global, count: u64) -> Result<String, AllocError> {
-    let parts = if count == 1 { "part" } else { "parts" };
-    format!(in alloc;
-        "among the requests: {count} {parts}: give the requests themselves, not what split wrote"
-    )
 }
