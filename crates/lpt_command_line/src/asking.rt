@@ -1,81 +1,58 @@
 //! The commands that write requests to a memory, and those that say what became of them.
 
-use crate::commands::{COUNT, JSON, QUIET, TEXT, U8};
-use crate::layout_words::LAYOUT;
-use crate::row::{CommandRow, Configured, NamedRow, Need, Word};
-use clap::ArgAction;
+use crate::commands::{COUNT, JSON, LAYOUT, QUIET, TEXT, U8};
+use crate::row::{CommandRow, Configured, Named, Word};
 use clap::builder::ValueParser;
 
-pub(crate) const MEMORY: Word = Word {
-    name: "MEMORY",
-    value: U8,
-    need: Need::One,
-    help: "The memory's identifier, 0 to 255",
-};
+pub(crate) const MEMORY: Word = Word::One("MEMORY", U8, "The memory's identifier, 0 to 255");
 
-pub(crate) const ADDRESS: Word = Word {
-    name: "ADDRESS",
-    value: TEXT,
-    need: Need::One,
-    help: "The address of the first octet, as 16384 or 0x4000",
-};
+pub(crate) const ADDRESS: Word = Word::One(
+    "ADDRESS",
+    TEXT,
+    "The address of the first octet, as 16384 or 0x4000",
+);
 
-const REPORTS: Word = Word {
-    name: "REPORTS",
-    value: TEXT,
-    need: Need::Any(&["-"]),
-    help: "Files of reports, or - for standard input",
-};
+const REPORTS: Word = Word::Files("REPORTS", "Files of reports, or - for standard input");
 
-const PLACES: Word = Word {
-    name: "PLACE",
-    value: TEXT,
-    need: Need::Several(&["ADDRESS", "LENGTH"]),
-    help: "Addresses, each followed by how many octets, 1 to 4294967295; numbers as 16384 or \
+const PLACES: Word = Word::Several(
+    "PLACE",
+    &["ADDRESS", "LENGTH"],
+    "Addresses, each followed by how many octets, 1 to 4294967295; numbers as 16384 or \
            0x4000",
-};
+);
 
-const EACH: NamedRow = NamedRow {
-    name: "each",
-    value: ValueParser::Signed(1, 65_535),
-    behind: &["N"],
-    action: ArgAction::Set,
-    other: &[],
-    help: "At most N octets in a request; as many as fit if not given",
-};
+const EACH: Named = Named::One(
+    "each",
+    "N",
+    ValueParser::Signed(1, 65_535),
+    "At most N octets in a request; as many as fit if not given",
+);
 
-const ACK: NamedRow = NamedRow {
-    name: "ack",
-    value: ValueParser::Signed(0, 15),
-    behind: &["N"],
-    action: ArgAction::Set,
-    other: &["0"],
-    help: "Acknowledgement flags, 0 to 15, a sum: 1 acceptance, 2 start, 4 progress, 8 completion",
-};
+const ACK: Named = Named::Else(
+    "ack",
+    "N",
+    (ValueParser::Signed(0, 15), "0"),
+    "Acknowledgement flags, 0 to 15, a sum: 1 acceptance, 2 start, 4 progress, 8 completion",
+);
 
 /// `verify`.
 pub(crate) static VERIFY: CommandRow = CommandRow {
     name: "verify",
     about: "List requests with what verification reports say about them",
     words: &[
-        Word {
-            name: "REQUESTS",
-            value: TEXT,
-            need: Need::One,
-            help: "The requests themselves, not what split wrote; - for standard input",
-        },
+        Word::One(
+            "REQUESTS",
+            TEXT,
+            "The requests themselves, not what split wrote; - for standard input",
+        ),
         REPORTS,
     ],
     named: &[
         JSON,
-        NamedRow {
-            name: "open",
-            value: ValueParser::Bool,
-            behind: &[],
-            action: ArgAction::SetTrue,
-            other: &[],
-            help: "Write the packets of requests that no report settles, in place of the list",
-        },
+        Named::Flag(
+            "open",
+            "Write the packets of requests that no report settles, in place of the list",
+        ),
         LAYOUT,
         QUIET,
     ],
@@ -89,12 +66,11 @@ pub(crate) static COMPARE: CommandRow = CommandRow {
     words: &[
         MEMORY,
         ADDRESS,
-        Word {
-            name: "FILE",
-            value: TEXT,
-            need: Need::One,
-            help: "The file that should be in the memory, or - for standard input",
-        },
+        Word::One(
+            "FILE",
+            TEXT,
+            "The file that should be in the memory, or - for standard input",
+        ),
         REPORTS,
     ],
     named: &[LAYOUT, QUIET],
@@ -105,29 +81,14 @@ pub(crate) static COMPARE: CommandRow = CommandRow {
 pub(crate) static CHECKSUM: CommandRow = CommandRow {
     name: "checksum",
     about: "Print the checksum that a check report has for a file",
-    words: &[Word {
-        name: "FILE",
-        value: TEXT,
-        need: Need::Else(&["-"]),
-        help: "The octets' file, or - for standard input",
-    }],
+    words: &[Word::File("FILE", "The octets' file, or - for standard input")],
     named: &[
-        NamedRow {
-            name: "from",
-            value: TEXT,
-            behind: &["PLACE"],
-            action: ArgAction::Set,
-            other: &["0"],
-            help: "The place of the first octet",
-        },
-        NamedRow {
-            name: "length",
-            value: TEXT,
-            behind: &["N"],
-            action: ArgAction::Set,
-            other: &[],
-            help: "How many octets; all that follow if not given",
-        },
+        Named::Else("from", "PLACE", (TEXT, "0"), "The place of the first octet"),
+        Named::Text(
+            "length",
+            "N",
+            "How many octets; all that follow if not given",
+        ),
     ],
     configured: Configured::No,
 };
@@ -139,22 +100,15 @@ pub(crate) static REQUEST_LOAD: CommandRow = CommandRow {
     words: &[
         MEMORY,
         ADDRESS,
-        Word {
-            name: "FILE",
-            value: TEXT,
-            need: Need::Else(&["-"]),
-            help: "The octets' file, or - for standard input",
-        },
+        Word::File("FILE", "The octets' file, or - for standard input"),
     ],
     named: &[
-        NamedRow {
-            name: "area",
-            value: TEXT,
-            behind: &["ADDRESS", "FILE"],
-            action: ArgAction::Append,
-            other: &[],
-            help: "Load another file to another address, in the same requests",
-        },
+        Named::Many(
+            "area",
+            &["ADDRESS", "FILE"],
+            &[],
+            "Load another file to another address, in the same requests",
+        ),
         EACH,
         ACK,
         COUNT,

@@ -1,16 +1,17 @@
 //! The program as clap reads it, from the rows of its commands.
 
 use crate::asking::{CHECKSUM, COMPARE, REQUEST_CHECK, REQUEST_DUMP, REQUEST_LOAD, VERIFY};
-use crate::commands::{DECODE, EXTRACT, JOIN, LIST, RUN, SPLIT, THREADS};
+use crate::commands::{DECODE, EXTRACT, JOIN, LIST, RUN, SPLIT, TEXT, THREADS};
 use crate::grounds::{
     GROUND_CHECK, GROUND_DUMP, GROUND_LOAD, GROUND_PATCH, GROUND_WORDS, PASS_CHECK, PASS_DUMP,
     PASS_LOAD, PASS_PATCH, PASS_WORDS,
 };
 use crate::passes::{LINK, SPACECRAFT};
-use crate::row::{CommandRow, Configured, Family, NamedRow, Word};
+use crate::row::{CommandRow, Configured, Family, Named, Word};
 use crate::setting_words::{PASS_SETTINGS, REQUEST_SETTINGS, SETTINGS};
+use crate::words::STANDARD;
 use clap::builder::ValueParser;
-use clap::{Arg, Command};
+use clap::{Arg, ArgAction, Command};
 use std::alloc::{AllocError, Global};
 
 /// What stands below the help of the program.
@@ -72,65 +73,37 @@ fn add_meant<'a>(
     add_commands(alloc, asked, commands, &packets, &[])?;
     let passes = [&SPACECRAFT, &LINK, &VERIFY, &COMPARE, &CHECKSUM];
     add_commands(alloc, asked, commands, &passes, &[])?;
-    add_ground(alloc, asked, commands)?;
-    add_pass(alloc, asked, commands)?;
-    add_request(alloc, asked, commands)
+    add_families(alloc, asked, commands)
 }
 
-// Adds `ground`.
-fn add_ground<'a>(
+// Adds the commands with others below them, of this name, or all.
+fn add_families<'a>(
     alloc: Global,
     asked: Option<&str>,
     commands: &mut Vec<Command<'a>>,
 ) -> Result<(), AllocError> {
-    let family = Family {
+    let ground = Family {
         name: "ground",
         about: "Send requests to a memory until reports settle them",
         below: &[&GROUND_LOAD, &GROUND_DUMP, &GROUND_CHECK, &GROUND_PATCH],
         shared: &GROUND_WORDS,
     };
-    add_family(alloc, asked, commands, family)
-}
-
-// Adds `pass`.
-fn add_pass<'a>(
-    alloc: Global,
-    asked: Option<&str>,
-    commands: &mut Vec<Command<'a>>,
-) -> Result<(), AllocError> {
-    let family = Family {
+    let pass = Family {
         name: "pass",
         about: "Carry requests to a spacecraft over links that lose, all in one process",
         below: &[&PASS_LOAD, &PASS_DUMP, &PASS_CHECK, &PASS_PATCH],
         shared: &PASS_WORDS,
     };
-    add_family(alloc, asked, commands, family)
-}
-
-// Adds `request`.
-fn add_request<'a>(
-    alloc: Global,
-    asked: Option<&str>,
-    commands: &mut Vec<Command<'a>>,
-) -> Result<(), AllocError> {
-    let family = Family {
+    let request = Family {
         name: "request",
         about: "Write telecommands that load, dump or check a memory",
         below: &[&REQUEST_LOAD, &REQUEST_DUMP, &REQUEST_CHECK],
         shared: &[],
     };
-    add_family(alloc, asked, commands, family)
-}
-
-// Adds a command with others below it.
-fn add_family<'a>(
-    alloc: Global,
-    asked: Option<&str>,
-    commands: &mut Vec<Command<'a>>,
-    family: Family<'_>,
-) -> Result<(), AllocError> {
-    if is_meant(asked, family.name) {
-        commands.push(family_of(alloc, family)?)?;
+    for family in [ground, pass, request] {
+        if is_meant(asked, family.name) {
+            commands.push(family_of(alloc, family)?)?;
+        }
     }
     Ok(())
 }
@@ -160,7 +133,7 @@ fn add_commands<'a>(
     name: Option<&str>,
     commands: &mut Vec<Command<'a>>,
     rows: &[&'a CommandRow],
-    shared: &'a [NamedRow],
+    shared: &'a [Named],
 ) -> Result<(), AllocError> {
     for row in rows {
         if is_meant(name, row.name) {
@@ -174,18 +147,8 @@ fn add_commands<'a>(
 fn command_of<'a>(
     alloc: Global,
     row: &'a CommandRow,
-    shared: &'a [NamedRow],
+    shared: &'a [Named],
 ) -> Result<Command<'a>, AllocError> {
-    let words = words_of(alloc, row, shared)?;
-    Command::new(alloc, row.name).about(row.about).args(words)
-}
-
-// The words of a command, with these after its own.
-fn words_of<'a>(
-    alloc: Global,
-    row: &'a CommandRow,
-    shared: &'a [NamedRow],
-) -> Result<Vec<Arg<'a>>, AllocError> {
     let mut words = Vec::new(alloc);
     for word in row.words {
         words.push(word_of(alloc, word))?;
@@ -193,14 +156,14 @@ fn words_of<'a>(
     add_named(alloc, &mut words, row.named)?;
     add_named(alloc, &mut words, shared)?;
     add_named(alloc, &mut words, settings_of(row.configured))?;
-    Ok(words)
+    Command::new(alloc, row.name).about(row.about).args(words)
 }
 
 // Adds the words that are given behind these names.
 fn add_named<'a>(
     alloc: Global,
     words: &mut Vec<Arg<'a>>,
-    list: &'a [NamedRow],
+    list: &'a [Named],
 ) -> Result<(), AllocError> {
     for named in list {
         words.push(named_of(alloc, named))?;
@@ -209,7 +172,7 @@ fn add_named<'a>(
 }
 
 // The words of a configuration that a command takes.
-fn settings_of(configured: Configured) -> &'static [NamedRow] {
+fn settings_of(configured: Configured) -> &'static [Named] {
     match configured {
         Configured::No => &[],
         // All but the last, `mode`.
@@ -222,21 +185,55 @@ fn settings_of(configured: Configured) -> &'static [NamedRow] {
 
 // A word that is given by its place.
 fn word_of<'a>(alloc: Global, word: &'a Word) -> Arg<'a> {
-    let need = word.need;
-    any_word(alloc, word.name, word.value, word.help)
-        .required(need.is_needed())
-        .num_args(need.count())
-        .value_names(need.names())
-        .default_values(need.other())
+    match *word {
+        Word::One(name, value, help) => any_word(alloc, name, value, help).required(true),
+        Word::May(name, help) => any_word(alloc, name, TEXT, help),
+        Word::File(name, help) => any_word(alloc, name, TEXT, help).default_value(STANDARD),
+        Word::Files(name, help) => {
+            any_word(alloc, name, TEXT, help)
+                .num_args(1..=usize::MAX)
+                .default_value(STANDARD)
+        }
+        Word::Several(name, names, help) => any_word(alloc, name, TEXT, help)
+            .required(true)
+            .num_args(names.len()..=usize::MAX)
+            .value_names(names),
+    }
 }
 
 // A word that is given behind its name.
-fn named_of<'a>(alloc: Global, named: &'a NamedRow) -> Arg<'a> {
-    any_word(alloc, named.name, named.value, named.help)
-        .long(named.name)
-        .action(named.action)
-        .value_names(named.behind)
-        .default_values(named.other)
+fn named_of<'a>(alloc: Global, named: &'a Named) -> Arg<'a> {
+    match *named {
+        Named::Flag(name, help) => {
+            option(alloc, name, ValueParser::Bool, help).action(ArgAction::SetTrue)
+        }
+        Named::File(name, help) => option(alloc, name, TEXT, help).value_name("FILE"),
+        Named::Odds(name, help) => {
+            option(alloc, name, TEXT, help)
+                .value_name("P")
+                .default_value("0%")
+        }
+        Named::Text(name, behind, help) => option(alloc, name, TEXT, help).value_name(behind),
+        Named::One(name, behind, value, help) => option(alloc, name, value, help).value_name(
+            behind,
+        ),
+        Named::Else(name, behind, (value, other), help) => {
+            option(alloc, name, value, help)
+                .value_name(behind)
+                .default_value(other)
+        }
+        Named::Many(name, behind, other, help) => option(alloc, name, TEXT, help)
+            .action(ArgAction::Append)
+            .value_names(behind)
+            .default_values(other),
+    }
+}
+
+// A word behind a name, which comes once.
+fn option<'a>(alloc: Global, name: &'a str, value: ValueParser<'a>, help: &'a str) -> Arg<'a> {
+    any_word(alloc, name, value, help)
+        .long(name)
+        .action(ArgAction::Set)
 }
 
 // A word of this name.

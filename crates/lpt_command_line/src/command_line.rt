@@ -1,19 +1,20 @@
 //! What the words of the command line ask for.
 
 use crate::building::program;
-use crate::compare_words::{ChecksumWords, CompareWords, checksum_command, compare_command};
-use crate::extract_words::{ExtractWords, extract_command};
-use crate::file_words::{JoinWords, ListWords, STANDARD, join_command, list_command};
-use crate::ground_words::{GroundWords, ground_command};
-use crate::layout_words::{DecodeWords, decode_command};
+use crate::compare_words::{
+    ChecksumWords, CompareWords, VerifyWords, checksum_command, compare_command, verify_command,
+};
+use crate::file_words::{
+    ExtractWords, JoinWords, ListWords, extract_command, join_command, list_command,
+};
+use crate::ground_words::{GroundWords, PassWords, ground_words, pass_command};
 use crate::link_words::{LinkWords, link_command};
-use crate::pass_words::{PassWords, pass_command};
 use crate::request_words::{RequestWords, request_command};
 use crate::setting_words::{SettingWords, setting_words};
 use crate::spacecraft_words::{SpacecraftWords, spacecraft_command};
-use crate::split_words::{SplitEachWords, SplitOneWords, split_command, split_each_command};
-use crate::verify_words::{VerifyWords, verify_command};
-use crate::word_fault::WordFault;
+use crate::split_words::{SplitEachWords, SplitOneWords, split_command};
+use crate::word_fault::{MISSING, WordFault, no_path};
+use crate::words::{STANDARD, Words};
 use clap::{ArgMatches, Error};
 use std::alloc::{AllocError, Global};
 
@@ -86,6 +87,17 @@ pub struct RunWords<'a> {
     pub views: bool,
 }
 
+/// What `decode` asks for.
+#[derive(Clone, Copy)]
+pub struct DecodeWords<'a> {
+    /// Octets as hexadecimal digits, or `-` for none; without a word standard input has the digits.
+    pub hex: Option<&'a str>,
+    /// Whether areas and segments are said.
+    pub more: bool,
+    /// The path of the layouts, if one is given.
+    pub layout: Option<&'a str>,
+}
+
 /// Why the words ask for nothing that is to be done.
 #[derive(Drop)]
 pub enum NoCommand<'a> {
@@ -130,59 +142,49 @@ fn words_meant<'a>(
     matches: &ArgMatches<'a>,
 ) -> Result<CommandLine<'a>, WordFault<'a>> {
     let Some((name, inner)) = matches.subcommand() else {
-        return Err(WordFault::Missing);
+        return Err(WordFault::Said(MISSING));
     };
-    let (words, below) = match inner.subcommand() {
-        None => (inner, None),
-        Some((below, words)) => (words, Some(below)),
+    let (below, inner) = inner.subcommand().unwrap_or(("", inner));
+    let mut words = Words::new(inner);
+    check_paths(&mut words);
+    let asked = CommandLine {
+        command: command_of(alloc, name, below, &mut words),
+        settings: setting_words(&words),
+        quiet: words.flag("quiet"),
     };
-    check_paths(words)?;
-    let command = match below {
-        None => command_of(alloc, name, words),
-        Some(below) => command_below(alloc, name, below, words),
-    };
-    Ok(CommandLine {
-        command: command?,
-        settings: setting_words(words),
-        quiet: words.get_flag("quiet"),
-    })
+    match words.fault() {
+        None => Ok(asked),
+        Some(fault) => {
+            drop(asked);
+            Err(fault)
+        }
+    }
 }
 
 // Refuses `-` behind the options that name a file or a folder.
-fn check_paths<'a>(words: &ArgMatches<'a>) -> Result<(), WordFault<'a>> {
+fn check_paths(words: &mut Words<'_, '_>) {
     for (option, place) in PATHS {
-        if words.get_str(option) == Some(STANDARD) {
-            return Err(WordFault::NoPath(place));
+        if words.find(option) == Some(STANDARD) {
+            words.refuse(no_path(place));
         }
     }
-    Ok(())
 }
 
-// What the words of a command of this name ask for, which stands below another.
-fn command_below<'a>(
-    alloc: Global,
-    above: &str,
-    name: &str,
-    words: &ArgMatches<'a>,
-) -> Result<Command<'a>, WordFault<'a>> {
-    match above {
-        "ground" => ground_command(alloc, name, words),
-        "pass" => pass_command(alloc, name, words),
-        _ => request_command(alloc, name, words),
-    }
-}
-
-// What the words of a command of this name ask for.
+// What the words of a command of this name ask for, and of one below it.
 fn command_of<'a>(
     alloc: Global,
     name: &str,
-    words: &ArgMatches<'a>,
-) -> Result<Command<'a>, WordFault<'a>> {
+    below: &str,
+    words: &mut Words<'_, 'a>,
+) -> Command<'a> {
     match name {
-        "run" | "threads" => script_command(name, words),
+        "run" => Command::Run(RunWords {
+            script: words.text("SCRIPT"),
+            views: words.flag("views"),
+        }),
+        "threads" => Command::Threads(words.text("SCRIPT")),
         "list" => list_command(alloc, words),
-        "split" if words.get_flag("each") => split_each_command(alloc, words),
-        "split" => split_command(words),
+        "split" => split_command(alloc, words),
         "join" => join_command(alloc, words),
         "link" => link_command(alloc, words),
         "extract" => extract_command(alloc, words),
@@ -190,22 +192,13 @@ fn command_of<'a>(
         "compare" => compare_command(alloc, words),
         "checksum" => checksum_command(words),
         "spacecraft" => spacecraft_command(alloc, words),
-        _ => Ok(decode_command(words)),
-    }
-}
-
-// What the words of a command that takes a script alone ask for.
-//
-// Errors: `Missing`.
-fn script_command<'a>(name: &str, words: &ArgMatches<'a>) -> Result<Command<'a>, WordFault<'a>> {
-    let Some(script) = words.get_str("SCRIPT") else {
-        return Err(WordFault::Missing);
-    };
-    Ok(match name {
-        "run" => Command::Run(RunWords {
-            script,
-            views: words.get_flag("views"),
+        "ground" => Command::Ground(ground_words(alloc, below, words)),
+        "pass" => pass_command(alloc, below, words),
+        "request" => request_command(alloc, below, words),
+        _ => Command::Decode(DecodeWords {
+            hex: words.find("HEX"),
+            more: words.flag("more"),
+            layout: words.find("layout"),
         }),
-        _ => Command::Threads(script),
-    })
+    }
 }

@@ -1,8 +1,6 @@
 //! The commands, and the words of each.
 
-use crate::layout_words::{LAYOUT, MORE};
-use crate::row::{CommandRow, Configured, NamedRow, Need, Word};
-use clap::ArgAction;
+use crate::row::{CommandRow, Configured, Named, Word};
 use clap::builder::ValueParser;
 
 pub(crate) const TEXT: ValueParser<'static> = ValueParser::String;
@@ -13,85 +11,63 @@ pub(crate) const U64: ValueParser<'static> = ValueParser::Unsigned(0, u64::MAX);
 
 pub(crate) const U32: ValueParser<'static> = ValueParser::Unsigned(0, u32::MAX as u64);
 
-const SCRIPT: Word = Word {
-    name: "SCRIPT",
-    value: TEXT,
-    need: Need::One,
-    help: "The script's path, or - for standard input",
-};
+const SCRIPT: Word = Word::One("SCRIPT", TEXT, "The script's path, or - for standard input");
 
-pub(crate) const JSON: NamedRow = NamedRow {
-    name: "json",
-    value: ValueParser::Bool,
-    behind: &[],
-    action: ArgAction::SetTrue,
-    other: &[],
-    help: "Print each line as a JSON object",
-};
+pub(crate) const JSON: Named = Named::Flag("json", "Print each line as a JSON object");
 
-pub(crate) const QUIET: NamedRow = NamedRow {
-    name: "quiet",
-    value: ValueParser::Bool,
-    behind: &[],
-    action: ArgAction::SetTrue,
-    other: &[],
-    help: "Report only why the status is not 0",
-};
+pub(crate) const QUIET: Named = Named::Flag("quiet", "Report only why the status is not 0");
 
-const DIRECTION: Word = Word {
-    name: "DIRECTION",
-    value: ValueParser::Names(&["up", "down"]),
-    need: Need::One,
-    help: "Up to the spacecraft, or down from it",
-};
+const DIRECTION: Word = Word::One(
+    "DIRECTION",
+    ValueParser::Names(&["up", "down"]),
+    "Up to the spacecraft, or down from it",
+);
 
-pub(crate) const PACKETS: Word = Word {
-    name: "FILE",
-    value: TEXT,
-    need: Need::Any(&["-"]),
-    help: "Files of packets, or - for standard input",
-};
+pub(crate) const PACKETS: Word = Word::Files("FILE", "Files of packets, or - for standard input");
 
-const FROM: NamedRow = NamedRow {
-    name: "from",
-    value: U64,
-    behind: &["PLACE"],
-    action: ArgAction::Set,
-    other: &[],
-    help: "Read from this place on, the number of an octet as list prints it",
-};
+const FROM: Named = Named::One(
+    "from",
+    "PLACE",
+    U64,
+    "Read from this place on, the number of an octet as list prints it",
+);
 
-const TO: NamedRow = NamedRow {
-    name: "to",
-    value: U64,
-    behind: &["PLACE"],
-    action: ArgAction::Set,
-    other: &[],
-    help: "Read up to this place, without its octet",
-};
+const TO: Named = Named::One(
+    "to",
+    "PLACE",
+    U64,
+    "Read up to this place, without its octet",
+);
 
-pub(crate) const COUNT: NamedRow = NamedRow {
-    name: "count",
-    value: ValueParser::Signed(0, 16_383),
-    behind: &["N"],
-    action: ArgAction::Set,
-    other: &["0"],
-    help: "The sequence count of the first packet, 0 to 16383",
-};
+pub(crate) const COUNT: Named = Named::Else(
+    "count",
+    "N",
+    (ValueParser::Signed(0, 16_383), "0"),
+    "The sequence count of the first packet, 0 to 16383",
+);
+
+/// The file of a mission's layouts.
+pub(crate) const LAYOUT: Named = Named::File(
+    "layout",
+    "A TOML file with the mission's layouts of headers and parts",
+);
+
+/// That more is said of octets than what they are.
+const MORE: Named = Named::Flag(
+    "more",
+    "Also print how many areas a request or report has, the first of them, and which \
+           segment a packet is",
+);
 
 /// `run`.
 pub(crate) static RUN: CommandRow = CommandRow {
     name: "run",
     about: "Run a script of the simulator",
     words: &[SCRIPT],
-    named: &[NamedRow {
-        name: "views",
-        value: ValueParser::Bool,
-        behind: &[],
-        action: ArgAction::SetTrue,
-        other: &[],
-        help: "Let the script also show link, senders, receptions and jobs",
-    }],
+    named: &[Named::Flag(
+        "views",
+        "Let the script also show link, senders, receptions and jobs",
+    )],
     configured: Configured::Nodes,
 };
 
@@ -108,12 +84,10 @@ pub(crate) static THREADS: CommandRow = CommandRow {
 pub(crate) static DECODE: CommandRow = CommandRow {
     name: "decode",
     about: "Decode a packet given in hexadecimal",
-    words: &[Word {
-        name: "HEX",
-        value: TEXT,
-        need: Need::May,
-        help: "Octets as hexadecimal digits, or - for none; without HEX standard input has them",
-    }],
+    words: &[Word::May(
+        "HEX",
+        "Octets as hexadecimal digits, or - for none; without HEX standard input has them",
+    )],
     named: &[MORE, LAYOUT],
     configured: Configured::Packets,
 };
@@ -125,14 +99,7 @@ pub(crate) static LIST: CommandRow = CommandRow {
     words: &[PACKETS],
     named: &[
         JSON,
-        NamedRow {
-            name: "strict",
-            value: ValueParser::Bool,
-            behind: &[],
-            action: ArgAction::SetTrue,
-            other: &[],
-            help: "Stop at damage, or octets that are no packet",
-        },
+        Named::Flag("strict", "Stop at damage, or octets that are no packet"),
         FROM,
         TO,
         LAYOUT,
@@ -147,53 +114,33 @@ pub(crate) static SPLIT: CommandRow = CommandRow {
     about: "Split a message into parts, and write their packets",
     words: &[
         DIRECTION,
-        Word {
-            name: "ID",
-            value: TEXT,
-            need: Need::One,
-            help: "The message's ID or SOURCE/ID, each 0 to 65535 or as wide as --layout says",
-        },
-        Word {
-            name: "FILE",
-            value: TEXT,
-            need: Need::Else(&["-"]),
-            help: "The message's file, or - for standard input",
-        },
+        Word::One(
+            "ID",
+            TEXT,
+            "The message's ID or SOURCE/ID, each 0 to 65535 or as wide as --layout says",
+        ),
+        Word::File("FILE", "The message's file, or - for standard input"),
     ],
     named: &[
-        NamedRow {
-            name: "parts",
-            value: TEXT,
-            behind: &["LIST"],
-            action: ArgAction::Append,
-            other: &["1-"],
-            help: "The parts to write, such as 3,7-9,12-; with --each ID:LIST",
-        },
+        Named::Many(
+            "parts",
+            &["LIST"],
+            &["1-"],
+            "The parts to write, such as 3,7-9,12-; with --each ID:LIST",
+        ),
         COUNT,
-        NamedRow {
-            name: "each",
-            value: ValueParser::Bool,
-            behind: &[],
-            action: ArgAction::SetTrue,
-            other: &[],
-            help: "Split each packet of the file as a message; the IDs count up from ID",
-        },
-        NamedRow {
-            name: "whole",
-            value: ValueParser::Bool,
-            behind: &[],
-            action: ArgAction::SetTrue,
-            other: &[],
-            help: "Write a message that fits in one part as it is, unsplit",
-        },
-        NamedRow {
-            name: "pcap",
-            value: ValueParser::Bool,
-            behind: &[],
-            action: ArgAction::SetTrue,
-            other: &[],
-            help: "Write the packets as a pcap capture; not with --each",
-        },
+        Named::Flag(
+            "each",
+            "Split each packet of the file as a message; the IDs count up from ID",
+        ),
+        Named::Flag(
+            "whole",
+            "Write a message that fits in one part as it is, unsplit",
+        ),
+        Named::Flag(
+            "pcap",
+            "Write the packets as a pcap capture; not with --each",
+        ),
         LAYOUT,
     ],
     configured: Configured::Packets,
@@ -205,44 +152,27 @@ pub(crate) static JOIN: CommandRow = CommandRow {
     about: "Join the parts that packets carry, and write the message",
     words: &[DIRECTION, PACKETS],
     named: &[
-        NamedRow {
-            name: "id",
-            value: TEXT,
-            behind: &["ID"],
-            action: ArgAction::Set,
-            other: &[],
-            help: "The message's ID or SOURCE/ID; needed if parts of several messages came",
-        },
-        NamedRow {
-            name: "first",
-            value: ValueParser::Bool,
-            behind: &[],
-            action: ArgAction::SetTrue,
-            other: &[],
-            help: "Write the first message under its name, even if others of that name come after \
+        Named::Text(
+            "id",
+            "ID",
+            "The message's ID or SOURCE/ID; needed if parts of several messages came",
+        ),
+        Named::Flag(
+            "first",
+            "Write the first message under its name, even if others of that name come after \
                    it",
-        },
-        NamedRow {
-            name: "any",
-            value: ValueParser::Bool,
-            behind: &[],
-            action: ArgAction::SetTrue,
-            other: &[],
-            help: "Write the joined message even if it is no packet",
-        },
-        NamedRow {
-            name: "each",
-            value: TEXT,
-            behind: &["DIR"],
-            action: ArgAction::Set,
-            other: &[],
-            help: "Write each message to a file of its own in this folder; not with --id or --first",
-        },
-        NamedRow {
-            help: "Print a JSON object for each message, with where it is in the packets; only \
+        ),
+        Named::Flag("any", "Write the joined message even if it is no packet"),
+        Named::Text(
+            "each",
+            "DIR",
+            "Write each message to a file of its own in this folder; not with --id or --first",
+        ),
+        Named::Flag(
+            "json",
+            "Print a JSON object for each message, with where it is in the packets; only \
                    with --each",
-            ..JSON
-        },
+        ),
         FROM,
         TO,
         LAYOUT,
@@ -257,46 +187,28 @@ pub(crate) static EXTRACT: CommandRow = CommandRow {
     about: "Extract octets of memory from dump reports",
     words: &[PACKETS],
     named: &[
-        NamedRow {
-            name: "at",
-            value: U8,
-            behind: &["MEMORY"],
-            action: ArgAction::Set,
-            other: &[],
-            help: "Write an image of this memory, each area at its address",
-        },
-        NamedRow {
-            name: "from",
-            value: TEXT,
-            behind: &["ADDRESS"],
-            action: ArgAction::Set,
-            other: &[],
-            help: "The address at which the image begins; 0 if not given",
-        },
-        NamedRow {
-            name: "fill",
-            value: U8,
-            behind: &["OCTET"],
-            action: ArgAction::Set,
-            other: &[],
-            help: "The octet for addresses that no area covers, 0 to 255; 0 if not given",
-        },
-        NamedRow {
-            name: "whole",
-            value: ValueParser::Bool,
-            behind: &[],
-            action: ArgAction::SetTrue,
-            other: &[],
-            help: "Write the image only if nothing of it is missing or was passed over",
-        },
-        NamedRow {
-            name: "join",
-            value: ValueParser::Bool,
-            behind: &[],
-            action: ArgAction::SetTrue,
-            other: &[],
-            help: "Also take dump reports that came in parts",
-        },
+        Named::One(
+            "at",
+            "MEMORY",
+            U8,
+            "Write an image of this memory, each area at its address",
+        ),
+        Named::Text(
+            "from",
+            "ADDRESS",
+            "The address at which the image begins; 0 if not given",
+        ),
+        Named::One(
+            "fill",
+            "OCTET",
+            U8,
+            "The octet for addresses that no area covers, 0 to 255; 0 if not given",
+        ),
+        Named::Flag(
+            "whole",
+            "Write the image only if nothing of it is missing or was passed over",
+        ),
+        Named::Flag("join", "Also take dump reports that came in parts"),
         LAYOUT,
         QUIET,
     ],

@@ -1,12 +1,24 @@
-//! The words of the commands that compare a file with check reports.
+//! The words of the commands that match files with reports.
 
 use crate::command_line::Command;
-use crate::file_words::{STANDARD, paths_in};
-use crate::layout_words::layout_in;
-use crate::request_words::{address_in, length_in};
-use crate::word_fault::WordFault;
-use clap::ArgMatches;
+use crate::word_fault::{TWICE, WordFault};
+use crate::words::{STANDARD, Words};
 use std::alloc::Global;
+
+/// What `verify` asks for.
+#[derive(Drop)]
+pub struct VerifyWords<'a> {
+    /// The path of the requests, or `-` for standard input.
+    pub requests: &'a str,
+    /// The paths of the reports, one behind the other, or `-` for standard input.
+    pub reports: Vec<&'a str>,
+    /// Whether each line is an object of JSON.
+    pub json: bool,
+    /// Whether the packets of what is open are written, and no line.
+    pub open: bool,
+    /// The path of the layouts, if one is given.
+    pub layout: Option<&'a str>,
+}
 
 /// What `compare` asks for.
 #[derive(Drop)]
@@ -34,45 +46,59 @@ pub struct ChecksumWords<'a> {
     pub len: Option<u32>,
 }
 
-/// What the words of `compare` ask for.
-///
-/// Errors: `Missing`, `Address`, `Twice`, `Memory`.
-pub(crate) fn compare_command<'a>(
-    alloc: Global,
-    matches: &ArgMatches<'a>,
-) -> Result<Command<'a>, WordFault<'a>> {
-    let (Some(memory), Some(address), Some(file)) = (
-        matches.get_one("MEMORY"),
-        matches.get_str("ADDRESS"),
-        matches.get_str("FILE"),
-    ) else {
-        return Err(WordFault::Missing);
-    };
-    let address = address_in(address)?;
-    let reports = paths_in(alloc, matches, "REPORTS")?;
-    if file == STANDARD && reports.contains(&STANDARD) {
-        return Err(WordFault::Twice);
+/// What the words of `verify` ask for.
+pub(crate) fn verify_command<'a>(alloc: Global, words: &mut Words<'_, 'a>) -> Command<'a> {
+    let requests = words.text("REQUESTS");
+    let reports = words.paths(alloc, "REPORTS");
+    let (json, open) = (words.flag("json"), words.flag("open"));
+    if requests == STANDARD && open {
+        words.say("the argument '-' cannot be used with '--open'");
     }
-    Ok(Command::Compare(CompareWords {
+    if requests == STANDARD && reports.contains(&STANDARD) {
+        words.say(TWICE);
+    }
+    if json && open {
+        words.say("the argument '--json' cannot be used with '--open'");
+    }
+    Command::Verify(VerifyWords {
+        requests,
+        reports,
+        json,
+        open,
+        layout: words.find("layout"),
+    })
+}
+
+/// What the words of `compare` ask for.
+pub(crate) fn compare_command<'a>(alloc: Global, words: &mut Words<'_, 'a>) -> Command<'a> {
+    let memory = words.number("MEMORY");
+    let address = words.text("ADDRESS");
+    let address = words.address(address);
+    let file = words.text("FILE");
+    let reports = words.paths(alloc, "REPORTS");
+    if file == STANDARD && reports.contains(&STANDARD) {
+        words.say(TWICE);
+    }
+    Command::Compare(CompareWords {
         memory,
         address,
         file,
         reports,
-        layout: layout_in(matches),
-    }))
+        layout: words.find("layout"),
+    })
 }
 
 /// What the words of `checksum` ask for.
-///
-/// Errors: `Missing`, `Address`, `Length`.
-pub(crate) fn checksum_command<'a>(matches: &ArgMatches<'a>) -> Result<Command<'a>, WordFault<'a>> {
-    let (Some(from), Some(file)) = (matches.get_str("from"), matches.get_str("FILE")) else {
-        return Err(WordFault::Missing);
-    };
-    let from = address_in(from)?;
-    let len = match matches.get_str("length") {
-        Some(word) => Some(length_in(word)?),
+pub(crate) fn checksum_command<'a>(words: &mut Words<'_, 'a>) -> Command<'a> {
+    let from = words.text("from");
+    let from = words.address(from);
+    let len = match words.find("length") {
+        Some(word) => Some(words.length(word)),
         None => None,
     };
-    Ok(Command::Checksum(ChecksumWords { file, from, len }))
+    Command::Checksum(ChecksumWords {
+        file: words.text("FILE"),
+        from,
+        len,
+    })
 }

@@ -1,10 +1,10 @@
 //! The words of the commands that carry what is asked of a memory to its end.
 
 use crate::command_line::Command;
-use crate::file_words::{STANDARD, count_in};
-use crate::request_words::{address_in, length_in};
-use crate::word_fault::WordFault;
-use clap::ArgMatches;
+use crate::link_words::{OddsWords, odds_words};
+use crate::spacecraft_words::{SpacecraftWords, craft_words};
+use crate::word_fault::{MISSING, WordFault, no_path};
+use crate::words::{STANDARD, Words};
 use std::alloc::Global;
 
 /// After how many waits in a row that settle nothing a pass is given up, if nothing else is said.
@@ -93,220 +93,178 @@ pub enum Job {
     Check,
 }
 
-/// What the words of the command of this name below `ground` ask for.
-///
-/// Errors: what is wrong with them, and out of memory.
-pub(crate) fn ground_command<'a>(
+/// What `pass` asks for.
+#[derive(Drop)]
+pub struct PassWords<'a> {
+    /// What ground carries to its end.
+    pub ground: GroundWords<'a>,
+    /// The spacecraft.
+    pub craft: SpacecraftWords<'a>,
+    /// What becomes of packets on the link up, and on the link down under the next seed.
+    pub odds: OddsWords,
+}
+
+/// What the words of the command of this name below `pass` ask for. Its spacecraft goes on behind
+/// damage, and its clock stands.
+pub(crate) fn pass_command<'a>(
     alloc: Global,
     name: &str,
-    matches: &ArgMatches<'a>,
-) -> Result<Command<'a>, WordFault<'a>> {
-    Ok(Command::Ground(ground_words(alloc, name, matches)?))
+    words: &mut Words<'_, 'a>,
+) -> Command<'a> {
+    let odds = odds_words(words);
+    let mut craft = craft_words(alloc, words);
+    craft.resync = true;
+    let ground = ground_words(alloc, name, words);
+    Command::Pass(PassWords {
+        ground,
+        craft,
+        odds,
+    })
 }
 
 /// What these words ask ground for, also in a pass.
-///
-/// Errors: what is wrong with them, and out of memory.
 pub(crate) fn ground_words<'a>(
     alloc: Global,
     name: &str,
-    matches: &ArgMatches<'a>,
-) -> Result<GroundWords<'a>, WordFault<'a>> {
-    let source = source_in(matches)?;
-    if matches.get_str("LIST") == Some(STANDARD) {
-        return Err(WordFault::NoPath("<LIST>"));
+    words: &mut Words<'_, 'a>,
+) -> GroundWords<'a> {
+    let source = source_in(words);
+    let list = words.find("LIST");
+    if list == Some(STANDARD) {
+        words.refuse(no_path("<LIST>"));
     }
-    let areas = match name {
-        "patch" => Vec::new(alloc),
-        "dump" => dumped_areas(alloc, matches)?,
-        _ => filed_areas(alloc, matches)?,
-    };
-    let large = large_in(name, matches)?;
-    ground_with(name, matches, source, areas, large).ok_or(WordFault::Missing)
-}
-
-// What these words ask for, of these areas.
-fn ground_with<'a>(
-    name: &str,
-    matches: &ArgMatches<'a>,
-    source: SourceWords<'a>,
-    areas: Vec<AreaWords<'a>>,
-    large: Option<LargeWords>,
-) -> Option<GroundWords<'a>> {
-    let (Some(count), Some(wait)) = (count_in(matches), matches.get_one("wait")) else {
-        return None;
-    };
-    Some(GroundWords {
-        job: job_in(name, matches),
+    let areas = areas_in(alloc, name, words);
+    GroundWords {
+        job: job_in(name, words),
         areas,
-        list: matches.get_str("LIST"),
-        large,
+        list,
+        large: large_in(name, words),
         source,
-        count,
-        wait,
-        tries: matches.get_one("tries").unwrap_or(TRIES),
-        up: matches.get_str("up"),
-        kept: matches.get_str("job"),
-        resync: matches.get_flag("resync"),
-        longest: matches.get_one("longest"),
-        json: matches.get_flag("json"),
-    })
+        count: words.count(),
+        wait: words.number("wait"),
+        tries: words.find_number("tries").unwrap_or(TRIES),
+        up: words.find("up"),
+        kept: words.find("job"),
+        resync: words.flag("resync"),
+        longest: words.find_number("longest"),
+        json: words.flag("json"),
+    }
 }
 
 // Under which names what the command of this name loads goes as one large message, if it does: then
 // it is one file's, and no job's file keeps it.
-fn large_in<'a>(name: &str, matches: &ArgMatches<'a>) -> Result<Option<LargeWords>, WordFault<'a>> {
+fn large_in(name: &str, words: &mut Words<'_, '_>) -> Option<LargeWords> {
+    let first = words.find_number("name");
+    let many = words.find_number("names");
     if name != "load" {
-        return Ok(None);
+        return None;
     }
-    let first = matches.get_one("name");
-    let many = matches.get_one("names");
-    let is_named = first.is_some() || many.is_some();
-    let is_kept = matches.get_str("job").is_some();
-    match (matches.get_flag("large"), matches.get_strs("area")) {
-        (false, _) if is_named => Err(WordFault::Wanted("--large")),
-        (false, _) => Ok(None),
-        (true, Some(_)) => Err(WordFault::Beside("--large", "--area <ADDRESS> <FILE>")),
-        (true, None) if is_kept => Err(WordFault::Beside("--large", "--job <FILE>")),
-        (true, None) => Ok(Some(LargeWords {
-            first: first.unwrap_or(0),
-            many: many.unwrap_or(NAMES),
-            tries: matches.get_one("tries").unwrap_or(u32::MAX),
-        })),
+    if !words.flag("large") {
+        if first.is_some() || many.is_some() {
+            words.say("the argument '--large' has to be given");
+        }
+        return None;
     }
+    if words.find("area").is_some() {
+        words.say("the argument '--large' cannot be used with '--area <ADDRESS> <FILE>'");
+    }
+    if words.find("job").is_some() {
+        words.say("the argument '--large' cannot be used with '--job <FILE>'");
+    }
+    Some(LargeWords {
+        first: first.unwrap_or(0),
+        many: many.unwrap_or(NAMES),
+        tries: words.find_number("tries").unwrap_or(u32::MAX),
+    })
 }
 
 // Where the pass has its own source from.
-fn source_in<'a>(matches: &ArgMatches<'a>) -> Result<SourceWords<'a>, WordFault<'a>> {
-    match (matches.get_one("source"), matches.get_str("passes")) {
-        (Some(_), Some(_)) => Err(WordFault::Beside("--source <N>", "--passes <FILE>")),
-        (Some(source), None) => Ok(SourceWords::Given(source)),
-        (None, Some(path)) => Ok(SourceWords::Next(path)),
-        (None, None) => Err(WordFault::Wanted("--source <N>' or '--passes <FILE>")),
+fn source_in<'a>(words: &mut Words<'_, 'a>) -> SourceWords<'a> {
+    match (words.find_number("source"), words.find("passes")) {
+        (Some(source), None) => SourceWords::Given(source),
+        (None, Some(path)) => SourceWords::Next(path),
+        (Some(source), Some(_)) => {
+            words.say("the argument '--source <N>' cannot be used with '--passes <FILE>'");
+            SourceWords::Given(source)
+        }
+        (None, None) => {
+            words.say("the argument '--source <N>' or '--passes <FILE>' has to be given");
+            SourceWords::Next("")
+        }
     }
 }
 
 // What the command of this name does.
-fn job_in(name: &str, matches: &ArgMatches<'_>) -> Job {
+fn job_in(name: &str, words: &Words<'_, '_>) -> Job {
     match name {
         "load" | "patch" => Job::Load {
-            starts: matches.get_str("ack") == Some("10"),
-            verify: matches.get_flag("verify"),
+            starts: words.find("ack") == Some("10"),
+            verify: words.flag("verify"),
         },
         "dump" => Job::Dump,
         _ => Job::Check,
     }
 }
 
-// The areas whose octets files have.
-fn filed_areas<'a>(
-    alloc: Global,
-    matches: &ArgMatches<'a>,
-) -> Result<Vec<AreaWords<'a>>, WordFault<'a>> {
-    let (Some(memory), Some(address), Some(file)) = (
-        matches.get_one("MEMORY"),
-        matches.get_str("ADDRESS"),
-        matches.get_str("FILE"),
-    ) else {
-        return Err(WordFault::Missing);
-    };
-    let first = filed_area(memory, address, file)?;
-    let mut areas = Vec::from_slice(alloc, &[first])?;
-    add_filed(&mut areas, memory, matches.get_strs("area").unwrap_or(&[]))?;
-    Ok(areas)
-}
-
-// Adds the areas of a memory that words name.
-fn add_filed<'a>(
-    areas: &mut Vec<AreaWords<'a>>,
-    memory: u8,
-    more: &[&'a str],
-) -> Result<(), WordFault<'a>> {
-    for pair in more.chunks(2) {
-        let [address, file] = pair else {
-            return Err(WordFault::Missing);
-        };
-        let area = filed_area(memory, address, file)?;
-        if areas.push(area).is_err() {
-            return Err(WordFault::Memory);
+// The octets of a memory that the command of this name names, and their files; a list has its own.
+fn areas_in<'a>(alloc: Global, name: &str, words: &mut Words<'_, 'a>) -> Vec<AreaWords<'a>> {
+    let mut areas = Vec::new(alloc);
+    if name == "patch" {
+        return areas;
+    }
+    let memory = words.number("MEMORY");
+    let address = words.text("ADDRESS");
+    let is_dump = name == "dump";
+    if is_dump {
+        let len = words.text("LENGTH");
+        if words.find("to").is_none() {
+            words.say("the argument '--to <FILE>' has to be given");
+        }
+        let file = words.find("to").unwrap_or("");
+        add_area(&mut areas, words, memory, address, Some(len), file);
+    } else {
+        let file = words.text("FILE");
+        add_area(&mut areas, words, memory, address, None, file);
+    }
+    let more = words.all(alloc, "area");
+    for group in more.chunks(if is_dump { 3 } else { 2 }) {
+        match group {
+            [address, file] => add_area(&mut areas, words, memory, address, None, file),
+            [address, len, file] => {
+                add_area(&mut areas, words, memory, address, Some(*len), file);
+            }
+            _ => words.say(MISSING),
         }
     }
-    Ok(())
+    areas
 }
 
-// The area of a file at an address; standard input can't be it, since it is what comes down.
-fn filed_area<'a>(
+// Adds the octets of a memory at an address: so many, which are dumped into a file, or else those
+// of the file. It isn't standard input, since that is what comes down, nor standard output.
+fn add_area<'a>(
+    areas: &mut Vec<AreaWords<'a>>,
+    words: &mut Words<'_, 'a>,
     memory: u8,
     address: &'a str,
+    dumped: Option<&'a str>,
     file: &'a str,
-) -> Result<AreaWords<'a>, WordFault<'a>> {
+) {
+    if dumped.is_none() && file == STANDARD {
+        words.say("'-' can't be read here: give the octets' path");
+    }
+    let address = words.address(address);
+    let len = match dumped {
+        Some(len) => words.length(len),
+        None => 0,
+    };
     if file == STANDARD {
-        return Err(WordFault::NoInput);
+        words.refuse(no_path("--area <ADDRESS> <LENGTH> <FILE>"));
     }
-    Ok(AreaWords {
+    let area = AreaWords {
         memory,
-        address: address_in(address)?,
-        len: 0,
+        address,
+        len,
         file,
-    })
-}
-
-// The areas that become files.
-fn dumped_areas<'a>(
-    alloc: Global,
-    matches: &ArgMatches<'a>,
-) -> Result<Vec<AreaWords<'a>>, WordFault<'a>> {
-    let (Some(memory), Some(address), Some(len)) = (
-        matches.get_one("MEMORY"),
-        matches.get_str("ADDRESS"),
-        matches.get_str("LENGTH"),
-    ) else {
-        return Err(WordFault::Missing);
     };
-    let Some(file) = matches.get_str("to") else {
-        return Err(WordFault::Wanted("--to <FILE>"));
-    };
-    let first = dumped_area(memory, address, len, file)?;
-    let mut areas = Vec::from_slice(alloc, &[first])?;
-    add_dumped(&mut areas, memory, matches.get_strs("area").unwrap_or(&[]))?;
-    Ok(areas)
-}
-
-// Adds the areas of a memory that words name.
-fn add_dumped<'a>(
-    areas: &mut Vec<AreaWords<'a>>,
-    memory: u8,
-    more: &[&'a str],
-) -> Result<(), WordFault<'a>> {
-    for words in more.chunks(3) {
-        let [address, len, file] = words else {
-            return Err(WordFault::Missing);
-        };
-        let area = dumped_area(memory, address, len, file)?;
-        if area.file == STANDARD {
-            return Err(WordFault::NoPath("--area <ADDRESS> <LENGTH> <FILE>"));
-        }
-        if areas.push(area).is_err() {
-            return Err(WordFault::Memory);
-        }
-    }
-    Ok(())
-}
-
-// The area of so many octets at an address that becomes a file.
-fn dumped_area<'a>(
-    memory: u8,
-    address: &'a str,
-    len: &'a str,
-    file: &'a str,
-) -> Result<AreaWords<'a>, WordFault<'a>> {
-    match (address_in(address), length_in(len)) {
-        (Ok(address), Ok(len)) => Ok(AreaWords {
-            memory,
-            address,
-            len,
-            file,
-        }),
-        (Err(fault), _) | (Ok(_), Err(fault)) => Err(fault),
-    }
+    words.push(areas, area);
 }

@@ -1,171 +1,123 @@
 //! The commands that carry what is asked of a memory to its end.
 
 use crate::asking::{ADDRESS, MEMORY};
-use crate::commands::{COUNT, JSON, QUIET, TEXT};
+use crate::commands::{COUNT, JSON, QUIET, TEXT, U64};
 use crate::passes::{
-    DAMAGE, DELAY, LONGEST, LOSE, MEMORY as CRAFT_MEMORY, REPEAT, RESYNC, SAVE, SEED, STATE,
+    DAMAGE, DELAY, LONGEST, LOSE, MEMORY as CRAFT_MEMORY, REPEAT, RESYNC, SAVE, STATE,
 };
-use crate::row::{CommandRow, Configured, NamedRow, Need, Word};
-use clap::ArgAction;
+use crate::row::{CommandRow, Configured, Named, Word};
 use clap::builder::ValueParser;
 
-const FILE: Word = Word {
-    name: "FILE",
-    value: TEXT,
-    need: Need::One,
-    help: "The path of the octets' file",
-};
+const FILE: Word = Word::One("FILE", TEXT, "The path of the octets' file");
 
-const LIST: Word = Word {
-    name: "LIST",
-    value: TEXT,
-    need: Need::One,
-    help: "A TOML file, in which each [[patch]] has memory, address, file and, if wanted, verify",
-};
+const LIST: Word = Word::One(
+    "LIST",
+    TEXT,
+    "A TOML file, in which each [[patch]] has memory, address, file and, if wanted, verify",
+);
 
-const LENGTH: Word = Word {
-    name: "LENGTH",
-    value: TEXT,
-    need: Need::One,
-    help: "How many octets, 1 to 4294967295, as 16384 or 0x4000",
-};
+const LENGTH: Word = Word::One(
+    "LENGTH",
+    TEXT,
+    "How many octets, 1 to 4294967295, as 16384 or 0x4000",
+);
 
-const WAIT: NamedRow = NamedRow {
-    name: "wait",
-    value: ValueParser::Signed(1, 86_400_000),
-    behind: &["MS"],
-    action: ArgAction::Set,
-    other: &["1000"],
-    help: "Send open requests again if nothing came for MS milliseconds. Give more than a round \
-           trip, and more than the spacecraft needs for a round",
-};
+const MILLIS: ValueParser<'static> = ValueParser::Signed(1, 86_400_000);
 
-const SHORT_WAIT: NamedRow = NamedRow {
-    other: &["200"],
-    ..WAIT
-};
+const WAIT_HELP: &str = "\
+Send open requests again if nothing came for MS milliseconds. Give more than a round trip, and \
+more than the spacecraft needs for a round";
 
-const TRIES: NamedRow = NamedRow {
-    name: "tries",
-    value: ValueParser::Signed(1, 1_000_000),
-    behind: &["N"],
-    action: ArgAction::Set,
-    other: &["10"],
-    help: "Give up after N waits in a row that settled nothing",
-};
+const WAIT: Named = Named::Else("wait", "MS", (MILLIS, "1000"), WAIT_HELP);
 
-const LOAD_TRIES: NamedRow = NamedRow {
-    other: &[],
-    help: "Give up after N waits in a row that settled nothing \
+const SHORT_WAIT: Named = Named::Else("wait", "MS", (MILLIS, "200"), WAIT_HELP);
+
+const TIMES: ValueParser<'static> = ValueParser::Signed(1, 1_000_000);
+
+const TRIES: Named = Named::Else(
+    "tries",
+    "N",
+    (TIMES, "10"),
+    "Give up after N waits in a row that settled nothing",
+);
+
+const LOAD_TRIES: Named = Named::One(
+    "tries",
+    "N",
+    TIMES,
+    "Give up after N waits in a row that settled nothing \
            [default: 10; if --large sends parts, as many as there are rounds]",
-    ..TRIES
-};
+);
 
-const LARGE: NamedRow = NamedRow {
-    name: "large",
-    value: ValueParser::Bool,
-    behind: &[],
-    action: ArgAction::SetTrue,
-    other: &[],
-    help: "Load the file in one step, all or nothing: by one request, in parts if it is long; \
+const LARGE: Named = Named::Flag(
+    "large",
+    "Load the file in one step, all or nothing: by one request, in parts if it is long; \
            not with --area or --job",
-};
+);
 
-const NAME: NamedRow = NamedRow {
-    name: "name",
-    value: ValueParser::Signed(0, 65_535),
-    behind: &["ID"],
-    action: ArgAction::Set,
-    other: &[],
-    help: "With --large: the transaction ID under which the parts go first [default: 0]",
-};
+const NAME: Named = Named::One(
+    "name",
+    "ID",
+    ValueParser::Signed(0, 65_535),
+    "With --large: the transaction ID under which the parts go first [default: 0]",
+);
 
-const NAMES: NamedRow = NamedRow {
-    name: "names",
-    value: ValueParser::Signed(1, 65_536),
-    behind: &["N"],
-    action: ArgAction::Set,
-    other: &[],
-    help: "With --large: give up after N IDs; the parts go under the first for 4 rounds, then for \
+const NAMES: Named = Named::One(
+    "names",
+    "N",
+    ValueParser::Signed(1, 65_536),
+    "With --large: give up after N IDs; the parts go under the first for 4 rounds, then for \
            8, 12 and so on [default: 6]",
-};
+);
 
-const UP: NamedRow = NamedRow {
-    name: "up",
-    value: TEXT,
-    behind: &["FIFO"],
-    action: ArgAction::Set,
-    other: &[],
-    help: "Where requests are written, in place of standard output",
-};
+const UP: Named = Named::Text(
+    "up",
+    "FIFO",
+    "Where requests are written, in place of standard output",
+);
 
-const JOB: NamedRow = NamedRow {
-    name: "job",
-    value: TEXT,
-    behind: &["FILE"],
-    action: ArgAction::Set,
-    other: &[],
-    help: "Keep in this file what is completed; the same command with another source goes on from \
+const JOB: Named = Named::File(
+    "job",
+    "Keep in this file what is completed; the same command with another source goes on from \
            it",
-};
+);
 
-const PASSES: NamedRow = NamedRow {
-    name: "passes",
-    value: TEXT,
-    behind: &["FILE"],
-    action: ArgAction::Set,
-    other: &[],
-    help: "Take the source after the one in this file, and write it there; in place of --source. \
+const PASSES: Named = Named::File(
+    "passes",
+    "Take the source after the one in this file, and write it there; in place of --source. \
            All operators of a spacecraft share one file",
-};
+);
 
-const AREA: NamedRow = NamedRow {
-    name: "area",
-    value: TEXT,
-    behind: &["ADDRESS", "FILE"],
-    action: ArgAction::Append,
-    other: &[],
-    help: "Another file at another address, in the same pass",
-};
+const AREA: Named = Named::Many(
+    "area",
+    &["ADDRESS", "FILE"],
+    &[],
+    "Another file at another address, in the same pass",
+);
 
-const DUMPED_AREA: NamedRow = NamedRow {
-    name: "area",
-    value: TEXT,
-    behind: &["ADDRESS", "LENGTH", "FILE"],
-    action: ArgAction::Append,
-    other: &[],
-    help: "Other octets and their file, in the same pass",
-};
+const DUMPED_AREA: Named = Named::Many(
+    "area",
+    &["ADDRESS", "LENGTH", "FILE"],
+    &[],
+    "Other octets and their file, in the same pass",
+);
 
-const ACK: NamedRow = NamedRow {
-    name: "ack",
-    value: ValueParser::Names(&["8", "10"]),
-    behind: &["N"],
-    action: ArgAction::Set,
-    other: &["8"],
-    help: "The acknowledgement flags: with 10 a report of start counts as well",
-};
+const ACK: Named = Named::Else(
+    "ack",
+    "N",
+    (ValueParser::Names(&["8", "10"]), "8"),
+    "The acknowledgement flags: with 10 a report of start counts as well",
+);
 
-const VERIFY: NamedRow = NamedRow {
-    name: "verify",
-    value: ValueParser::Bool,
-    behind: &[],
-    action: ArgAction::SetTrue,
-    other: &[],
-    help: "Dump the octets after the load, and compare them",
-};
+const VERIFY: Named = Named::Flag("verify", "Dump the octets after the load, and compare them");
 
-const TO: NamedRow = NamedRow {
-    name: "to",
-    value: TEXT,
-    behind: &["FILE"],
-    action: ArgAction::Set,
-    other: &[],
-    help: "Where the octets are written once all have come; must be given",
-};
+const TO: Named = Named::File(
+    "to",
+    "Where the octets are written once all have come; must be given",
+);
 
 /// The words that each command below `ground` takes after its own.
-pub(crate) static GROUND_WORDS: [NamedRow; 6] = [UP, JOB, RESYNC, LONGEST, JSON, QUIET];
+pub(crate) static GROUND_WORDS: [Named; 6] = [UP, JOB, RESYNC, LONGEST, JSON, QUIET];
 
 /// `ground load`.
 pub(crate) static GROUND_LOAD: CommandRow = CommandRow {
@@ -205,13 +157,15 @@ pub(crate) static GROUND_PATCH: CommandRow = CommandRow {
     configured: Configured::Pass,
 };
 
-const PASS_SEED: NamedRow = NamedRow {
-    help: "The random seed; what gets lost also depends on how fast the machine is",
-    ..SEED
-};
+const PASS_SEED: Named = Named::Else(
+    "seed",
+    "S",
+    (U64, "0"),
+    "The random seed; what gets lost also depends on how fast the machine is",
+);
 
 /// The words that each command below `pass` takes after its own.
-pub(crate) static PASS_WORDS: [NamedRow; 12] = [
+pub(crate) static PASS_WORDS: [Named; 12] = [
     JOB,
     LONGEST,
     JSON,

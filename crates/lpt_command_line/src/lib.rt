@@ -6,7 +6,7 @@
 //!
 //! A new command is a row in `src/commands.rt`, which `src/building.rt` adds; a case of `Command`
 //! in `src/command_line.rt`, with a line in `command_of`, and a function which makes that case of
-//! the words that were read; and a line in `do_command` or `do_on_packets` of `lpt/src/main.rt`,
+//! its `Words`; and a line in `do_command` or `do_on_packets` of `lpt/src/main.rt`,
 //! which does the work.
 #![tactic(auto)]
 
@@ -15,39 +15,31 @@ mod building;
 mod command_line;
 mod commands;
 mod compare_words;
-mod extract_words;
 mod file_words;
 mod ground_words;
 mod grounds;
-mod layout_words;
 mod link_words;
-mod number_words;
-mod pass_words;
 mod passes;
 mod request_words;
 mod row;
 mod setting_words;
 mod spacecraft_words;
 mod split_words;
-mod tailored_words;
-mod verify_words;
 mod word_fault;
+mod words;
 
-pub use command_line::{Command, CommandLine, NoCommand, RunWords, read_words};
-pub use compare_words::{ChecksumWords, CompareWords};
-pub use extract_words::ExtractWords;
-pub use file_words::{JoinWords, ListWords, Span};
-pub use ground_words::{AreaWords, GroundWords, Job, LargeWords, SourceWords};
-pub use layout_words::DecodeWords;
+pub use command_line::{Command, CommandLine, DecodeWords, NoCommand, RunWords, read_words};
+pub use compare_words::{ChecksumWords, CompareWords, VerifyWords};
+pub use file_words::{ExtractWords, JoinWords, ListWords, Span};
+pub use ground_words::{AreaWords, GroundWords, Job, LargeWords, PassWords, SourceWords};
 pub use link_words::{LinkWords, OddsWords};
 pub use lpt_packet::{Direction, Name};
 pub use lpt_part::Mode;
 pub use lpt_pus::AckFlags;
-pub use pass_words::PassWords;
 pub use request_words::{RequestWords, What};
 pub use setting_words::{SettingWords, longest_on_link};
 pub use spacecraft_words::SpacecraftWords;
-pub use split_words::{GivenPick, SplitEachWords, SplitOneWords, SplitWords, name_within};
-pub use tailored_words::WideName;
-pub use verify_words::VerifyWords;
-pub use word_fault::{TwoUses, WordFault};
+pub use split_words::{
+    GivenPick, SplitEachWords, SplitOneWords, SplitWords, WideName, name_within,
+};
+pub use word_fault::{TwoUses, UNKEPT, WordFault};

@@ -1,9 +1,8 @@
 //! The words of the command that carries packets over a link that loses.
 
 use crate::command_line::Command;
-use crate::layout_words::layout_in;
-use crate::word_fault::WordFault;
-use clap::ArgMatches;
+use crate::word_fault::invalid;
+use crate::words::Words;
 use std::alloc::Global;
 
 /// So many millionths are one percent.
@@ -38,45 +37,36 @@ pub struct OddsWords {
 }
 
 /// What the words of `link` ask for.
-///
-/// Errors: `Missing`; `Odds` for a word that is no percentage; `Memory`.
-pub(crate) fn link_command<'a>(
-    alloc: Global,
-    matches: &ArgMatches<'a>,
-) -> Result<Command<'a>, WordFault<'a>> {
-    let Some(files) = matches.get_strs("FILE") else {
-        return Err(WordFault::Missing);
-    };
-    Ok(Command::Link(LinkWords {
-        files: Vec::from_slice(alloc, files)?,
-        odds: odds_words(matches)?,
-        headers: odds_in(matches, "damage-headers")?,
-        layout: layout_in(matches),
-    }))
-}
-
-// What is to become of packets on a link.
-pub(crate) fn odds_words<'a>(matches: &ArgMatches<'a>) -> Result<OddsWords, WordFault<'a>> {
-    let lose = odds_in(matches, "lose")?;
-    let repeat = odds_in(matches, "repeat")?;
-    let damage = odds_in(matches, "damage")?;
-    let (Some(delay), Some(seed)) = (matches.get_one("delay"), matches.get_one("seed")) else {
-        return Err(WordFault::Missing);
-    };
-    Ok(OddsWords {
-        lose,
-        repeat,
-        damage,
-        delay,
-        seed,
+pub(crate) fn link_command<'a>(alloc: Global, words: &mut Words<'_, 'a>) -> Command<'a> {
+    Command::Link(LinkWords {
+        files: words.all(alloc, "FILE"),
+        odds: odds_words(words),
+        headers: odds_in(words, "damage-headers"),
+        layout: words.find("layout"),
     })
 }
 
+// What is to become of packets on a link.
+pub(crate) fn odds_words(words: &mut Words<'_, '_>) -> OddsWords {
+    OddsWords {
+        lose: odds_in(words, "lose"),
+        repeat: odds_in(words, "repeat"),
+        damage: odds_in(words, "damage"),
+        delay: words.number("delay"),
+        seed: words.number("seed"),
+    }
+}
+
 // The odds that the word of this name says.
-fn odds_in<'a>(matches: &ArgMatches<'a>, name: &str) -> Result<u32, WordFault<'a>> {
-    match matches.get_str(name) {
-        None => Err(WordFault::Missing),
-        Some(word) => millionths(word).ok_or(WordFault::Odds(word)),
+fn odds_in(words: &mut Words<'_, '_>, name: &str) -> u32 {
+    let word = words.text(name);
+    match millionths(word) {
+        Some(odds) => odds,
+        None => {
+            let after = "' for '<P>': not a percentage from 0% to 100%";
+            words.refuse(invalid(word, after));
+            0
+        }
     }
 }
 

@@ -1,13 +1,10 @@
 //! The words of the commands that write requests to a memory.
 
-ghost use Rattle.std.specs.Prelude.{◌<◌, ◌≤◌, IfOk};
+ghost use Rattle.std.specs.Prelude.{◌<◌, ◌≤◌};
 
 use crate::command_line::Command;
-use crate::file_words::{STANDARD, count_in};
-use crate::layout_words::layout_in;
-use crate::number_words::number_in;
-use crate::word_fault::WordFault;
-use clap::ArgMatches;
+use crate::word_fault::{MISSING, WordFault};
+use crate::words::{STANDARD, Words};
 use lpt_pus::AckFlags;
 use lpt_requests::{CHECK_LIMIT, DUMP_LIMIT, LOAD_LIMIT};
 use std::alloc::Global;
@@ -45,31 +42,46 @@ pub enum What<'a> {
 }
 
 /// What the words of the command of this name below `request` ask for.
-///
-/// Errors: what is wrong with them, and out of memory.
 pub(crate) fn request_command<'a>(
     alloc: Global,
     name: &str,
-    matches: &ArgMatches<'a>,
-) -> Result<Command<'a>, WordFault<'a>> {
-    let (each, cut) = each_in(name, matches)?;
+    words: &mut Words<'_, 'a>,
+) -> Command<'a> {
+    let cut = words.find("each").is_some();
+    let each = each_in(name, words);
     let what = match name {
-        "load" => What::Load(areas_in(alloc, matches)?),
-        "dump" => What::Dump(places_in(alloc, matches)?),
-        _ => What::Check(places_in(alloc, matches)?),
+        "load" => What::Load(areas_in(alloc, words)),
+        "dump" => What::Dump(places_in(alloc, words)),
+        _ => What::Check(places_in(alloc, words)),
     };
-    request_with(matches, what, each, cut).ok_or(WordFault::Missing)
+    Command::Request(RequestWords {
+        memory: words.number("MEMORY"),
+        what,
+        each,
+        cut,
+        count: words.count(),
+        flags: flags_in(words),
+        layout: words.find("layout"),
+    })
 }
 
-// How many octets one request of this name asks for at most, and whether that is given.
-fn each_in<'a>(name: &str, matches: &ArgMatches<'a>) -> Result<(u16, bool), WordFault<'a>>
-    ensures { IfOk result (λ each. 0 < each.0) }
+// How many octets one request of this name asks for at most.
+fn each_in(name: &str, words: &mut Words<'_, '_>) -> u16
+    ensures { 0 < result }
 {
     let limit = limit_of(name);
-    match matches.get_one("each") {
-        None => Ok((limit, false)),
-        Some(each) if each == 0 || each > limit => Err(WordFault::Each { each, limit }),
-        Some(each) => Ok((each, true)),
+    match words.find_number("each") {
+        Some(each) if 0 < each && each <= limit => each,
+        Some(each) => {
+            words.refuse(WordFault::Number {
+                place: "--each <N>",
+                number: u32::from(each),
+                least: 1,
+                most: u32::from(limit),
+            });
+            limit
+        }
+        None => limit,
     }
 }
 
@@ -84,125 +96,52 @@ fn limit_of(name: &str) -> u16
     }
 }
 
-// The request of these words that asks for this.
-fn request_with<'a>(
-    matches: &ArgMatches<'a>,
-    what: What<'a>,
-    each: u16,
-    cut: bool,
-) -> Option<Command<'a>>
-    requires { 0 < each }
-{
-    let flags = flags_in(matches);
-    let (Some(memory), Some(count), Some(flags)) = (
-        matches.get_one("MEMORY"),
-        count_in(matches),
-        flags,
-    ) else {
-        return None;
-    };
-    Some(Command::Request(RequestWords {
-        memory,
-        what,
-        each,
-        cut,
-        count,
-        flags,
-        layout: layout_in(matches),
-    }))
+// The acknowledgement flags, a number up to 15.
+fn flags_in(words: &mut Words<'_, '_>) -> AckFlags {
+    let bits: u8 = words.number("ack");
+    AckFlags::new(bits.min(15)).unwrap()
 }
 
-// The acknowledgement flags.
-fn flags_in(matches: &ArgMatches<'_>) -> Option<AckFlags> {
-    AckFlags::new(matches.get_one("ack")?)
-}
-
-// The addresses and the files of a load.
-fn areas_in<'a>(
-    alloc: Global,
-    matches: &ArgMatches<'a>,
-) -> Result<Vec<(u32, &'a str)>, WordFault<'a>> {
-    let (Some(address), Some(file)) = (matches.get_str("ADDRESS"), matches.get_str("FILE")) else {
-        return Err(WordFault::Missing);
-    };
-    let address = address_in(address)?;
-    let mut areas = Vec::from_slice(alloc, &[(address, file)])?;
-    add_areas(&mut areas, matches.get_strs("area").unwrap_or(&[]))?;
-    Ok(areas)
-}
-
-// Adds the areas that words name, of which one alone is loaded from standard input.
-fn add_areas<'a>(areas: &mut Vec<(u32, &'a str)>, more: &[&'a str]) -> Result<(), WordFault<'a>> {
+// The addresses and the files of a load, of which one alone is standard input.
+fn areas_in<'a>(alloc: Global, words: &mut Words<'_, 'a>) -> Vec<(u32, &'a str)> {
+    let (address, file) = (words.text("ADDRESS"), words.text("FILE"));
+    let mut areas = Vec::new(alloc);
+    let mut has_input = file == STANDARD;
+    let address = words.address(address);
+    words.push(&mut areas, (address, file));
+    let more = words.all(alloc, "area");
     for pair in more.chunks(2) {
         let [address, file] = pair else {
-            return Err(WordFault::Missing);
+            words.say(MISSING);
+            break;
         };
-        let address = address_in(address)?;
-        if *file == STANDARD && has_input(areas) {
-            return Err(WordFault::SharedInput);
+        let address = words.address(address);
+        if *file == STANDARD && has_input {
+            words.say("'-' can be read for one area only, and is FILE if no path is given");
         }
-        if areas.push((address, *file)).is_err() {
-            return Err(WordFault::Memory);
-        }
+        has_input = has_input || *file == STANDARD;
+        words.push(&mut areas, (address, *file));
     }
-    Ok(())
-}
-
-// Whether one of these areas is loaded from standard input.
-fn has_input(areas: &[(u32, &str)]) -> bool {
-    for (_, file) in areas {
-        if *file == STANDARD {
-            return true;
-        }
-    }
-    false
+    areas
 }
 
 // The places of a dump or a check.
-fn places_in<'a>(
-    alloc: Global,
-    matches: &ArgMatches<'a>,
-) -> Result<Vec<(u32, u32)>, WordFault<'a>> {
-    let Some(words) = matches.get_strs("PLACE") else {
-        return Err(WordFault::Missing);
-    };
+fn places_in(alloc: Global, words: &mut Words<'_, '_>) -> Vec<(u32, u32)> {
     let mut places = Vec::new(alloc);
-    add_places(&mut places, words)?;
-    Ok(places)
-}
-
-// Adds the places that words name.
-fn add_places<'a>(places: &mut Vec<(u32, u32)>, words: &[&'a str]) -> Result<(), WordFault<'a>> {
-    for pair in words.chunks(2) {
-        let place = place_in(pair)?;
-        if places.push(place).is_err() {
-            return Err(WordFault::Memory);
+    let all = words.all(alloc, "PLACE");
+    for pair in all.chunks(2) {
+        match pair {
+            [address, len] => {
+                let place = (words.address(address), words.length(len));
+                words.push(&mut places, place);
+            }
+            [address] => words.refuse(WordFault::Word {
+                before: "a '<LENGTH>' is missing after the '<ADDRESS>' ",
+                word: address,
+                after: "",
+            }),
+            _ => words.say(MISSING),
         }
     }
-    Ok(())
-}
-
-// The place that two words name.
-fn place_in<'a>(pair: &[&'a str]) -> Result<(u32, u32), WordFault<'a>> {
-    match pair {
-        [address, len] => match (address_in(address), length_in(len)) {
-            (Ok(address), Ok(len)) => Ok((address, len)),
-            (Err(fault), _) | (Ok(_), Err(fault)) => Err(fault),
-        },
-        [address] => Err(WordFault::NoLength(address)),
-        _ => Err(WordFault::Missing),
-    }
-}
-
-// The address that a word names.
-pub(crate) fn address_in<'a>(word: &'a str) -> Result<u32, WordFault<'a>> {
-    number_in(word).ok_or(WordFault::Address(word))
-}
-
-// The number of octets that a word names.
-pub(crate) fn length_in<'a>(word: &'a str) -> Result<u32, WordFault<'a>> {
-    match number_in(word) {
-        None | Some(0) => Err(WordFault::Length(word)),
-        Some(len) => Ok(len),
-    }
+    places
 }

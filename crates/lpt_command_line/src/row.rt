@@ -1,8 +1,6 @@
 //! What is said of a command and of its words, by which clap reads them.
 
-use clap::ArgAction;
 use clap::builder::ValueParser;
-use std::ops::RangeInclusive;
 
 /// A command.
 pub(crate) struct CommandRow {
@@ -13,7 +11,7 @@ pub(crate) struct CommandRow {
     /// The words that are given by their place.
     pub(crate) words: &'static [Word],
     /// The words that are given behind a name.
-    pub(crate) named: &'static [NamedRow],
+    pub(crate) named: &'static [Named],
     /// Which words of a configuration it takes.
     pub(crate) configured: Configured,
 }
@@ -43,80 +41,41 @@ pub(crate) struct Family<'f> {
     /// The commands below it.
     pub(crate) below: &'f [&'static CommandRow],
     /// The words that each of these takes behind a name, after its own.
-    pub(crate) shared: &'static [NamedRow],
+    pub(crate) shared: &'static [Named],
 }
 
-/// A word that is given by its place.
-pub(crate) struct Word {
-    /// The name by which it is read, and by which help calls it.
-    pub(crate) name: &'static str,
-    /// What it has to be.
-    pub(crate) value: ValueParser<'static>,
-    /// Whether it must be there.
-    pub(crate) need: Need,
-    /// What it is.
-    pub(crate) help: &'static str,
-}
-
-/// Whether a word must be there.
+/// A word that is given by its place: first the name by which it is read, and by which help calls
+/// it, and last what it is.
 #[derive(Clone, Copy)]
-pub(crate) enum Need {
-    /// It must.
-    One,
-    /// It needn't.
-    May,
-    /// It must, and more behind it; help calls them by these names in turn.
-    Several(&'static [&'static str]),
-    /// It needn't, and is this one then.
-    Else(&'static [&'static str; 1]),
-    /// There may be as many as one likes, and if there is none, it is this one.
-    Any(&'static [&'static str; 1]),
+pub(crate) enum Word {
+    /// One that must be there, and what it has to be.
+    One(&'static str, ValueParser<'static>, &'static str),
+    /// A text that needn't be there.
+    May(&'static str, &'static str),
+    /// A file, and standard input if it isn't there.
+    File(&'static str, &'static str),
+    /// As many files as one likes, and standard input if there is none.
+    Files(&'static str, &'static str),
+    /// Texts, at least as many as these names by which help calls them in turn.
+    Several(&'static str, &'static [&'static str], &'static str),
 }
 
-impl Need {
-    // Whether it must be there.
-    pub(crate) fn is_needed(self) -> bool {
-        !matches!(self, Need::May | Need::Else(_) | Need::Any(_))
-    }
-
-    // The names by which help calls them, if it has others than its own.
-    pub(crate) fn names(self) -> &'static [&'static str] {
-        match self {
-            Need::Several(names) => names,
-            _ => &[],
-        }
-    }
-
-    // What it is if it isn't there.
-    pub(crate) fn other(self) -> &'static [&'static str] {
-        match self {
-            Need::Else(other) | Need::Any(other) => other,
-            _ => &[],
-        }
-    }
-
-    // How many words can stand there: as many as there are names, or more.
-    pub(crate) fn count(self) -> RangeInclusive<usize> {
-        match self {
-            Need::Several(names) => names.len()..=usize::MAX,
-            Need::Any(_) => 1..=usize::MAX,
-            _ => 1..=1,
-        }
-    }
-}
-
-/// A word that is given behind its name.
-pub(crate) struct NamedRow {
-    /// The name by which it is read, without its hyphens.
-    pub(crate) name: &'static str,
-    /// What it has to be.
-    pub(crate) value: ValueParser<'static>,
-    /// What help calls the words behind the name; a flag has none.
-    pub(crate) behind: &'static [&'static str],
-    /// Whether it is a flag, and whether it may come again.
-    pub(crate) action: ArgAction,
-    /// What it is if it isn't given, if there is such a thing.
-    pub(crate) other: &'static [&'static str],
-    /// What it is.
-    pub(crate) help: &'static str,
+/// A word that is given behind a name: first that, without its hyphens, then what help calls what
+/// stands behind it, and last what it is.
+#[derive(Clone, Copy)]
+pub(crate) enum Named {
+    /// A flag, behind which nothing stands.
+    Flag(&'static str, &'static str),
+    /// The path of a file, which help calls so.
+    File(&'static str, &'static str),
+    /// A share of packets, which is none if it isn't given.
+    Odds(&'static str, &'static str),
+    /// A text.
+    Text(&'static str, &'static str, &'static str),
+    /// A number, or a word, of these.
+    One(&'static str, &'static str, ValueParser<'static>, &'static str),
+    /// The same, and what it is if it isn't given.
+    Else(&'static str, &'static str, (ValueParser<'static>, &'static str), &'static str),
+    /// Texts, which may come again; and what they are if they aren't given, if there is such.
+    Many(&'static str, &'static [&'static str], &'static [&'static str], &'static str),
 }

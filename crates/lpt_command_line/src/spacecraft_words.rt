@@ -1,9 +1,8 @@
 //! The words of the spacecraft's end.
 
 use crate::command_line::Command;
-use crate::file_words::STANDARD;
-use crate::word_fault::WordFault;
-use clap::ArgMatches;
+use crate::word_fault::{WordFault, invalid, no_path};
+use crate::words::{STANDARD, Words};
 use std::alloc::Global;
 
 /// What `spacecraft` asks for.
@@ -30,74 +29,48 @@ pub struct SpacecraftWords<'a> {
 }
 
 /// What the words of `spacecraft` ask for.
-///
-/// Errors: `Beside`, `Memory`, and what is wrong with a memory's word.
-pub(crate) fn spacecraft_command<'a>(
-    alloc: Global,
-    matches: &ArgMatches<'a>,
-) -> Result<Command<'a>, WordFault<'a>> {
-    let every: Option<u64> = matches.get_one("tick-every");
-    let tick: Option<u32> = matches.get_one("tick");
-    if every.is_some() && tick.is_some() {
-        return Err(WordFault::Beside("--tick <MS>", "--tick-every <N>"));
+pub(crate) fn spacecraft_command<'a>(alloc: Global, words: &mut Words<'_, 'a>) -> Command<'a> {
+    if words.find("tick-every").is_some() && words.find("tick").is_some() {
+        words.say("the argument '--tick <MS>' cannot be used with '--tick-every <N>'");
     }
-    Ok(Command::Spacecraft(SpacecraftWords {
-        memories: memories_in(alloc, matches)?,
-        save: matches.get_flag("save"),
-        tick_every: every.unwrap_or(0),
-        tick: tick.unwrap_or(0),
-        reuse: matches.get_one("reuse").unwrap_or(0),
-        resync: matches.get_flag("resync"),
-        longest: matches.get_one("longest"),
-        log: matches.get_flag("log"),
-        state: matches.get_str("state"),
-    }))
+    Command::Spacecraft(craft_words(alloc, words))
 }
 
-/// What the words of a pass ask of its spacecraft: it goes on behind damage, and its clock stands.
-///
-/// Errors: `Memory`, and what is wrong with a memory's word.
-pub(crate) fn passed_words<'a>(
-    alloc: Global,
-    matches: &ArgMatches<'a>,
-) -> Result<SpacecraftWords<'a>, WordFault<'a>> {
-    Ok(SpacecraftWords {
-        memories: memories_in(alloc, matches)?,
-        save: matches.get_flag("save"),
-        tick_every: 0,
-        tick: 0,
-        reuse: 0,
-        resync: true,
-        longest: matches.get_one("longest"),
-        log: false,
-        state: matches.get_str("state"),
-    })
-}
-
-// The memories that words name.
-fn memories_in<'a>(
-    alloc: Global,
-    matches: &ArgMatches<'a>,
-) -> Result<Vec<(u8, &'a str)>, WordFault<'a>> {
+/// What words ask of a spacecraft.
+pub(crate) fn craft_words<'a>(alloc: Global, words: &mut Words<'_, 'a>) -> SpacecraftWords<'a> {
     let mut memories = Vec::new(alloc);
-    if let Some(words) = matches.get_strs("memory") {
-        for word in words {
-            if memories.push(memory_in(word)?).is_err() {
-                return Err(WordFault::Memory);
-            }
-        }
+    let all = words.all(alloc, "memory");
+    for word in &all {
+        let memory = memory_in(words, word);
+        words.push(&mut memories, memory);
     }
-    Ok(memories)
+    SpacecraftWords {
+        memories,
+        save: words.flag("save"),
+        tick_every: words.find_number("tick-every").unwrap_or(0),
+        tick: words.find_number("tick").unwrap_or(0),
+        reuse: words.find_number("reuse").unwrap_or(0),
+        resync: words.flag("resync"),
+        longest: words.find_number("longest"),
+        log: words.flag("log"),
+        state: words.find("state"),
+    }
 }
 
 // The memory that a word `ID=FILE` names.
-fn memory_in<'a>(word: &'a str) -> Result<(u8, &'a str), WordFault<'a>> {
-    let Some((id, file)) = word.split_once('=') else {
-        return Err(WordFault::NoMemory(word));
-    };
+fn memory_in<'a>(words: &mut Words<'_, 'a>, word: &'a str) -> (u8, &'a str) {
+    let (id, file) = word.split_once('=').unwrap_or(("", ""));
     match id.parse() {
-        Ok(_) if file == STANDARD => Err(WordFault::NoPath("--memory <ID=FILE>")),
-        Ok(id) => Ok((id, file)),
-        Err(_) => Err(WordFault::NoMemory(word)),
+        Ok(id) => {
+            if file == STANDARD {
+                words.refuse(no_path("--memory <ID=FILE>"));
+            }
+            (id, file)
+        }
+        Err(_) => {
+            let after = "' for '--memory': not ID=FILE with an ID from 0 to 255";
+            words.refuse(invalid(word, after));
+            (0, file)
+        }
     }
 }

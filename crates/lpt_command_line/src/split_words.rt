@@ -3,11 +3,8 @@
 ghost use Rattle.std.specs.Prelude.{◌≤◌};
 
 use crate::command_line::Command;
-use crate::file_words::{count_in, direction_in, list_in};
-use crate::layout_words::layout_in;
-use crate::tailored_words::{WideName, wide_name_in};
 use crate::word_fault::WordFault;
-use clap::ArgMatches;
+use crate::words::Words;
 use lpt_packet::Direction;
 use std::alloc::Global;
 
@@ -16,6 +13,16 @@ const ALL: &str = "1-";
 
 /// The greatest source and identifier of the profile.
 pub(crate) const MOST: u32 = 65_535;
+
+/// What words name a transaction of a layout by: its identifier, behind its source if that is
+/// given.
+#[derive(Clone, Copy)]
+pub struct WideName {
+    /// Its source, if it is given.
+    pub source: Option<u32>,
+    /// Its identifier.
+    pub id: u32,
+}
 
 /// What `split` asks for of a message, or of each.
 #[derive(Clone, Copy)]
@@ -71,89 +78,75 @@ pub struct GivenPick<'a> {
 impl<'a> GivenPick<'a> {
     /// Whether its identifier is one up to this one.
     ///
-    /// Errors: `Pick`.
+    /// Errors: that it isn't.
     pub fn check(&self, most: u32) -> Result<(), WordFault<'a>> {
         if self.id <= most {
             return Ok(());
         }
-        Err(WordFault::Pick {
-            word: self.word,
-            most,
-        })
+        Err(no_pick(self.word, most))
     }
 
     /// Whether its source, if it is given, is this one.
     ///
-    /// Errors: `PickSource`.
+    /// Errors: that it isn't.
     pub fn check_source(&self, source: u32) -> Result<(), WordFault<'a>> {
         match self.source {
-            Some(given) if given != source => Err(WordFault::PickSource {
+            Some(given) if given != source => Err(WordFault::Numbered {
+                before: "the source of '--parts ",
                 word: self.word,
-                source,
+                after: "' isn't that of '<ID>', ",
+                number: source,
             }),
             _ => Ok(()),
         }
     }
 }
 
-/// What the words of `split` ask for, and the list of the parts.
-///
-/// Errors: `Missing`; `Id` if what should name the message doesn't; `Beside`.
-pub(crate) fn split_command<'a>(matches: &ArgMatches<'a>) -> Result<Command<'a>, WordFault<'a>> {
-    let split = common_words(matches)?;
-    let parts = list_in(matches)?;
-    Ok(Command::Split(SplitOneWords { split, parts }))
-}
-
-/// What the words of `split --each` ask for.
-///
-/// Errors: `Missing`; `Id` if what should name the first message doesn't; `Beside`,
-/// `Pick`, `PickedTwice`, `Memory`.
-pub(crate) fn split_each_command<'a>(
-    alloc: Global,
-    matches: &ArgMatches<'a>,
-) -> Result<Command<'a>, WordFault<'a>> {
-    if matches.get_flag("pcap") {
-        return Err(WordFault::Beside("--each", "--pcap"));
+/// What the words of `split` ask for, also with `--each`.
+pub(crate) fn split_command<'a>(alloc: Global, words: &mut Words<'_, 'a>) -> Command<'a> {
+    if !words.flag("each") {
+        let split = common_words(words);
+        let parts = list_in(alloc, words);
+        return Command::Split(SplitOneWords { split, parts });
     }
-    let Some(lists) = matches.get_strs("parts") else {
-        return Err(WordFault::Missing);
-    };
-    let split = common_words(matches)?;
+    if words.flag("pcap") {
+        words.say("the argument '--each' cannot be used with '--pcap'");
+    }
+    let split = common_words(words);
     let most = if split.layout.is_some() {
         u32::MAX
     } else {
         MOST
     };
-    Ok(Command::SplitEach(SplitEachWords {
-        split,
-        picks: picks_in(alloc, lists, most)?,
-    }))
+    let picks = picks_in(alloc, words, most);
+    Command::SplitEach(SplitEachWords { split, picks })
 }
 
 // What both ask for.
-fn common_words<'a>(matches: &ArgMatches<'a>) -> Result<SplitWords<'a>, WordFault<'a>> {
-    let (Some(name), Some(direction), Some(file), Some(first)) = (
-        matches.get_str("ID"),
-        direction_in(matches),
-        matches.get_str("FILE"),
-        count_in(matches),
-    ) else {
-        return Err(WordFault::Missing);
-    };
-    let layout = layout_in(matches);
+fn common_words<'a>(words: &mut Words<'_, 'a>) -> SplitWords<'a> {
+    let name = words.text("ID");
+    let layout = words.find("layout");
     if layout.is_none() {
-        name_within("<ID>", name, MOST, MOST)?;
+        words.check(name_within("<ID>", name, MOST, MOST));
     }
-    Ok(SplitWords {
+    SplitWords {
         layout,
-        direction,
+        direction: words.direction(),
         name,
-        file,
-        first,
-        whole: matches.get_flag("whole"),
-        pcap: matches.get_flag("pcap"),
-    })
+        file: words.text("FILE"),
+        first: words.count(),
+        whole: words.flag("whole"),
+        pcap: words.flag("pcap"),
+    }
+}
+
+// The list of parts, of which there is one.
+fn list_in<'a>(alloc: Global, words: &mut Words<'_, 'a>) -> &'a str {
+    let lists = words.all(alloc, "parts");
+    if lists.len() > 1 {
+        words.say("the argument '--parts <LIST>' cannot be used with '--parts <LIST>'");
+    }
+    lists.first().copied().unwrap_or(ALL)
 }
 
 /// What a word at this place names, by sources and identifiers up to these.
@@ -171,33 +164,43 @@ pub fn name_within<'a>(
         most,
         source: most_source,
     };
-    match wide_name_in(word) {
+    match name_in(word) {
         Some(name) if name.id <= most && name.source.unwrap_or(0) <= most_source => Ok(name),
         _ => Err(refused),
     }
 }
 
+// What a word names, as `ID` or as `SOURCE/ID`.
+fn name_in(word: &str) -> Option<WideName> {
+    let (source, id) = match word.split_once('/') {
+        Some((source, id)) => (Some(source.parse().ok()?), id),
+        None => (None, word),
+    };
+    Some(WideName {
+        source,
+        id: id.parse().ok()?,
+    })
+}
+
 // The parts that words choose, by identifiers up to this one: `1-` alone chooses none, and so all.
-fn picks_in<'a>(
-    alloc: Global,
-    lists: &[&'a str],
-    most: u32,
-) -> Result<Vec<GivenPick<'a>>, WordFault<'a>> {
+fn picks_in<'a>(alloc: Global, words: &mut Words<'_, 'a>, most: u32) -> Vec<GivenPick<'a>> {
     let mut picks = Vec::new(alloc);
-    if lists == [ALL].as_slice() {
-        return Ok(picks);
+    let lists = words.all(alloc, "parts");
+    if lists.as_slice() == [ALL].as_slice() {
+        return picks;
     }
-    for word in lists {
-        let pick = pick_in(word).ok_or(WordFault::Pick { word, most })?;
-        pick.check(most)?;
-        if is_picked(&picks, pick.id) {
-            return Err(WordFault::PickedTwice(word));
-        }
-        if picks.push(pick).is_err() {
-            return Err(WordFault::Memory);
+    for word in &lists {
+        match pick_in(word, most) {
+            Ok(pick) if is_picked(&picks, pick.id) => words.refuse(WordFault::Word {
+                before: "the ID of '--parts ",
+                word,
+                after: "' has a list already",
+            }),
+            Ok(pick) => words.push(&mut picks, pick),
+            Err(fault) => words.refuse(fault),
         }
     }
-    Ok(picks)
+    picks
 }
 
 // Whether parts of the message of this identifier are chosen.
@@ -206,13 +209,28 @@ fn is_picked(picks: &[GivenPick<'_>], id: u32) -> bool {
 }
 
 // What a word chooses, as `ID:LIST` or as `SOURCE/ID:LIST`.
-fn pick_in(word: &str) -> Option<GivenPick<'_>> {
-    let (name, parts) = word.split_once(':')?;
-    let name = wide_name_in(name)?;
-    Some(GivenPick {
+fn pick_in<'a>(word: &'a str, most: u32) -> Result<GivenPick<'a>, WordFault<'a>> {
+    if let Some((name, parts)) = word.split_once(':') {
+        if let Some(WideName { source, id }) = name_in(name) {
+            let pick = GivenPick {
+                word,
+                source,
+                id,
+                parts,
+            };
+            pick.check(most)?;
+            return Ok(pick);
+        }
+    }
+    Err(no_pick(word, most))
+}
+
+// That a word is no identifier up to this one with a list of parts.
+fn no_pick<'a>(word: &'a str, most: u32) -> WordFault<'a> {
+    WordFault::Numbered {
+        before: "invalid value '",
         word,
-        source: name.source,
-        id: name.id,
-        parts,
-    })
+        after: "' for '--parts <LIST>': not ID:LIST with an ID up to ",
+        number: most,
+    }
 }

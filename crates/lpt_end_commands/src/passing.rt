@@ -2,7 +2,7 @@
 
 ghost use Rattle.lpt_events.specs.Configs.{IsConfig};
 
-use lpt_command_line::{Job, OddsWords, PassWords, SettingWords, WordFault};
+use lpt_command_line::{Job, OddsWords, PassWords, SettingWords, UNKEPT};
 use lpt_events::Config;
 use lpt_ground_commands::{
     Errand, ErrandKind, GroundNotes, Piece, Places, Ready, Teller, check_places, files_used,
@@ -54,7 +54,7 @@ where
         return Ok(Status::Unreadable);
     };
     if !is_kept(words, &pieces) && words.ground.kept.is_some() {
-        return Ok(word_refused(rt, rt.alloc(), &WordFault::Unkept));
+        return Ok(word_refused(rt, rt.alloc(), &UNKEPT));
     }
     let lock = job_lock(rt, process, &words.ground)?;
     let ended = fly_locked(

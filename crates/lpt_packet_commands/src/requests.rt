@@ -83,14 +83,24 @@ fn word_fault(
 ) -> Option<WordFault<'static>> {
     let (each, source) = (words.each, config.source);
     if words.cut && each > limit {
-        return Some(WordFault::Each { each, limit });
+        return Some(WordFault::Number {
+            place: "--each <N>",
+            number: u32::from(each),
+            least: 1,
+            most: u32::from(limit),
+        });
     }
     let most = match layouts.telecommands.packets.user {
         Width::Absent => u32::MAX,
         width => greatest(width),
     };
     if u32::from(source) > most {
-        return Some(WordFault::Source { source, most });
+        return Some(WordFault::Number {
+            place: "--source <N>",
+            number: u32::from(source),
+            least: 0,
+            most,
+        });
     }
     None
 }
