@@ -4,12 +4,13 @@ ghost use Rattle.std.specs.Prelude.{IfOk};
 ghost use Rattle.lpt_events.specs.Configs.{IsConfig};
 
 use crate::end::Failure;
+use crate::ended::done_at;
 use crate::fault::Fault;
 use crate::watched::Watched;
 use lpt_command_line::SettingWords;
 use lpt_events::{Config, Turns};
 use lpt_memory::Memories;
-use lpt_settings::{SettingsFault, read_config, why_refused};
+use lpt_settings::{Complaint, SettingsFault, read_config, why_refused};
 use lpt_text::{End, FromStd, read_text};
 use std::alloc::{AllocError, Global};
 use std::fs::File;
@@ -60,21 +61,17 @@ fn read_at(
         return Ok(read_config(rt.alloc(), "")?);
     };
     let octets = read_file(rt, path)?;
-    match str::from_utf8(octets.as_slice()) {
+    let place = match text_of(rt.alloc(), path, &octets) {
         Ok(text) => match read_config(rt.alloc(), text) {
-            Ok(read) => Ok(read),
+            Ok(read) => return Ok(read),
+            Err(SettingsFault::Memory) => return Err(Failure::from(Fault::Memory)),
             Err(SettingsFault::Config) => {
-                let place = complaint(rt.alloc(), path, text);
-                Err(Failure::at(Fault::Config, place))
+                complaint(rt.alloc(), path, why_refused(rt.alloc(), text))
             }
-            Err(fault) => Err(Failure::from(fault)),
         },
-        Err(error) => {
-            let octet = error.valid_up_to().saturating_add(1);
-            let place = format!(in rt.alloc(); "{path}: octet {octet} isn't UTF-8");
-            Err(Failure::at(Fault::Config, place))
-        }
-    }
+        Err(place) => place,
+    };
+    Err(Failure::at(Fault::Config, place))
 }
 
 /// The configuration alone, as `settings_of` gives it.
@@ -91,9 +88,30 @@ pub fn config_of(
     Ok(config)
 }
 
+// The text of the file at this path, which has these octets.
+//
+// Errors: the first octet that isn't text.
+pub(crate) fn text_of<'o>(
+    alloc: Global,
+    path: &str,
+    octets: &'o [u8],
+) -> Result<&'o str, Result<String, AllocError>> {
+    match str::from_utf8(octets) {
+        Ok(text) => Ok(text),
+        Err(error) => {
+            let octet = error.valid_up_to().saturating_add(1);
+            Err(format!(in alloc; "{path}: octet {octet} isn't UTF-8"))
+        }
+    }
+}
+
 // Where the text of the file at this path is refused, and why.
-fn complaint(alloc: Global, path: &str, text: &str) -> Result<String, AllocError> {
-    match why_refused(alloc, text)? {
+pub(crate) fn complaint(
+    alloc: Global,
+    path: &str,
+    why: Result<Option<Complaint>, AllocError>,
+) -> Result<String, AllocError> {
+    match why? {
         Some(complaint) => match complaint.line() {
             Some(line) => format!(in alloc; "{path}:{line}: {complaint}"),
             None => format!(in alloc; "{path}: {complaint}"),
@@ -107,13 +125,7 @@ fn complaint(alloc: Global, path: &str, text: &str) -> Result<String, AllocError
 /// Errors: `Read` if it can't be opened or read; `Config` if it has more than 1,048,576
 /// octets; `Memory`.
 pub fn read_file(rt: &(impl Files + AllocGlobal), path: &str) -> Result<Vec<u8>, Failure> {
-    let file = match File::open(rt, path) {
-        Ok(file) => file,
-        Err(error) => {
-            let place = format!(in rt.alloc(); "{path}: {error}");
-            return Err(Failure::at(Fault::Read, place));
-        }
-    };
+    let file = done_at(rt, Fault::Read, path, File::open(rt, path))?;
     let mut source = FromStd::new(Watched::new(file.take(LONGEST_FILE as u64 + 1)));
     let octets = read_octets(rt.alloc(), path, &mut source);
     drop(source);

@@ -3,7 +3,7 @@
 ghost use Rattle.std.specs.Prelude.{◌≡◌};
 ghost use Rattle.lpt_io.specs.Words.{octets_called};
 
-use crate::end::tell_place;
+use crate::end::tell_text;
 use std::alloc::{AllocError, Global};
 
 /// Tells how many packets of a stream have a fault, and how many octets are part of none, if
@@ -12,11 +12,8 @@ pub fn tell_no_packets(rt: &(impl Eprint + AllocGlobal), stream: &str, damaged: 
     if damaged == 0 && stray == 0 {
         return;
     }
-    let Ok(text) = no_packets_text(rt.alloc(), damaged, stray) else {
-        return;
-    };
-    if let Ok(line) = format!(in rt.alloc(); "{stream}{text}") {
-        tell_place(rt, line.as_str());
+    if let Ok(text) = no_packets_text(rt.alloc(), damaged, stray) {
+        tell_text(rt, format!(in rt.alloc(); "{stream}{text}"));
     }
 }
 

@@ -73,7 +73,11 @@ impl From<StreamFault> for Failure {
     ghost from_gives = { λ fault made. fault_of made ≡ of_stream fault };
 
     fn from(fault: StreamFault) -> Self {
-        Failure::from(Fault::from(fault))
+        Failure::from(match fault {
+            StreamFault::Read => Fault::Read,
+            StreamFault::Write => Fault::Write,
+            StreamFault::Memory => Fault::Memory,
+        })
     }
 }
 
@@ -81,7 +85,10 @@ impl From<SettingsFault> for Failure {
     ghost from_gives = { λ fault made. fault_of made ≡ of_settings fault };
 
     fn from(fault: SettingsFault) -> Self {
-        Failure::from(Fault::from(fault))
+        Failure::from(match fault {
+            SettingsFault::Config => Fault::Config,
+            SettingsFault::Memory => Fault::Memory,
+        })
     }
 }
 
@@ -97,20 +104,15 @@ pub fn tell_end(rt: &impl Eprint, ended: Result<Status, Failure>) -> Status
         Err(failure) => failure,
     };
     if !failure.quiet {
-        tell_fault(rt, failure.fault);
+        let words = failure.fault.words();
+        if !words.is_empty() {
+            let _ = rt.eprintln(words);
+        }
         if let Some(place) = &failure.place {
             tell_place(rt, place.as_str());
         }
     }
     failure.fault.status()
-}
-
-// Names a fault on standard error, unless it was told of.
-fn tell_fault(rt: &impl Eprint, fault: Fault) {
-    let words = fault.words();
-    if !words.is_empty() {
-        let _ = rt.eprintln(words);
-    }
 }
 
 /// Says on standard error where a fault is, and what is wrong there. A question mark stands for a
@@ -136,31 +138,10 @@ pub fn tell_text(rt: &impl Eprint, text: Result<String, AllocError>) {
 /// The status by which the program ends if its words ask for nothing that is to be done, after
 /// that was printed: a usage fault, or the help or the version that was asked for.
 pub fn explain_words<R: Print + Eprint>(rt: &R, alloc: Global, unasked: &NoCommand<'_>) -> Status {
-    match unasked {
-        NoCommand::Said(error) => say_and_end(rt, alloc, error),
-        NoCommand::Fault(fault) => word_refused(rt, alloc, fault),
-    }
-}
-
-/// The status by which the program ends if a word is refused, after it was told why.
-pub fn word_refused(rt: &impl Eprint, alloc: Global, fault: &WordFault<'_>) -> Status {
-    if matches!(fault, WordFault::Memory) {
-        return tell_end(rt, Err(Failure::from(Fault::Memory)));
-    }
-    match fault.text(alloc) {
-        Ok(text) => {
-            let _ = rt.eprint("error: ");
-            let _ = rt.eprintln(text.as_str());
-            let _ = rt.eprintln("\nFor more information, try '--help'.");
-            Status::Unreadable
-        }
-        Err(_) => tell_end(rt, Err(Failure::from(Fault::Memory))),
-    }
-}
-
-// The status by which the program ends that only had to say this, after it was printed. If
-// nobody reads it, nothing is reported of that.
-fn say_and_end<R: Print + Eprint>(rt: &R, alloc: Global, error: &clap::Error) -> Status {
+    let error = match unasked {
+        NoCommand::Said(error) => error,
+        NoCommand::Fault(fault) => return word_refused(rt, alloc, fault),
+    };
     if error.kind() == ErrorKind::OutOfMemory {
         return tell_end(rt, Err(Failure::from(Fault::Memory)));
     }
@@ -170,10 +151,24 @@ fn say_and_end<R: Print + Eprint>(rt: &R, alloc: Global, error: &clap::Error) ->
     }
     match printed {
         Ok(()) => Status::Done,
+        // Nobody reads it, and nothing is reported of that.
         Err(error) if error.kind() == io::ErrorKind::BrokenPipe => Status::Failed,
         Err(error) => {
             let place = format!(in alloc; "standard output: {error}");
             tell_end(rt, Err(Failure::at(Fault::Write, place)))
         }
+    }
+}
+
+/// The status by which the program ends if a word is refused, after it was told why.
+pub fn word_refused(rt: &impl Eprint, alloc: Global, fault: &WordFault<'_>) -> Status {
+    match fault.text(alloc) {
+        Ok(text) if !matches!(fault, WordFault::Memory) => {
+            let _ = rt.eprint("error: ");
+            let _ = rt.eprintln(text.as_str());
+            let _ = rt.eprintln("\nFor more information, try '--help'.");
+            Status::Unreadable
+        }
+        _ => tell_end(rt, Err(Failure::from(Fault::Memory))),
     }
 }

@@ -58,13 +58,7 @@ pub fn carried_ended<R: Machine, T: Drop>(
     carried: Result<T, StreamFault>,
 ) -> Result<T, Failure> {
     let ended = read_ended(rt, voice, packets, paths, carried);
-    match finish(rt, out) {
-        Ok(()) => ended,
-        Err(failure) => {
-            drop(ended);
-            Err(failure)
-        }
-    }
+    with_output(rt, out, ended)
 }
 
 /// What work gave that read the input at this path and wrote to standard output, which is finished.
@@ -77,15 +71,12 @@ pub fn copied_ended<I, R: Print + AllocGlobal, T: Drop>(
     out: Output<'_, R>,
     copied: Result<T, StreamFault>,
 ) -> Result<T, Failure> {
-    match (finish(rt, out), copied) {
-        (Ok(()), Ok(value)) => Ok(value),
-        (Ok(()), Err(StreamFault::Read)) => Err(read_failure(rt, input, path)),
-        (Ok(()), Err(fault)) => Err(Failure::from(fault)),
-        (Err(failure), copied) => {
-            drop(copied);
-            Err(failure)
-        }
-    }
+    let ended = match copied {
+        Ok(value) => Ok(value),
+        Err(StreamFault::Read) => Err(read_failure(rt, input, path)),
+        Err(fault) => Err(Failure::from(fault)),
+    };
+    with_output(rt, out, ended)
 }
 
 /// What work gave that wrote to standard output, which is finished.
@@ -96,13 +87,40 @@ pub fn written_ended<R: Print + AllocGlobal, T: Drop>(
     out: Output<'_, R>,
     written: Result<T, StreamFault>,
 ) -> Result<T, Failure> {
-    match (finish(rt, out), written) {
-        (Ok(()), Ok(value)) => Ok(value),
-        (Ok(()), Err(fault)) => Err(Failure::from(fault)),
-        (Err(failure), written) => {
-            drop(written);
+    let ended = match written {
+        Ok(value) => Ok(value),
+        Err(fault) => Err(Failure::from(fault)),
+    };
+    with_output(rt, out, ended)
+}
+
+// What work gave that ended so, once standard output is finished.
+fn with_output<R: Print + AllocGlobal, T: Drop>(
+    rt: &R,
+    out: Output<'_, R>,
+    ended: Result<T, Failure>,
+) -> Result<T, Failure> {
+    match finish(rt, out) {
+        Ok(()) => ended,
+        Err(failure) => {
+            drop(ended);
             Err(failure)
         }
+    }
+}
+
+/// What was done with the file or the stream of this name.
+///
+/// Errors: this fault, and why it couldn't be done.
+pub(crate) fn done_at<T>(
+    rt: &impl AllocGlobal,
+    fault: Fault,
+    name: &str,
+    done: io::Result<T>,
+) -> Result<T, Failure> {
+    match done {
+        Ok(done) => Ok(done),
+        Err(error) => Err(failure_at(rt, fault, name, &error)),
     }
 }
 

@@ -2,10 +2,7 @@
 
 ghost use Rattle.std.specs.Prelude.{◌≡◌};
 ghost use Rattle.lpt_io.specs.Ends.{work_status};
-ghost use Rattle.lpt_io.specs.Faults.{of_settings, of_stream, status_of, words_of};
-
-use lpt_settings::SettingsFault;
-use lpt_text::StreamFault;
+ghost use Rattle.lpt_io.specs.Faults.{status_of, words_of};
 
 /// What the program's status says.
 #[derive(Clone, Copy)]
@@ -70,29 +67,6 @@ impl Fault {
         match self {
             Fault::Line | Fault::Config => Status::Unreadable,
             Fault::Read | Fault::Write | Fault::Memory | Fault::Threads => Status::Failed,
-        }
-    }
-}
-
-impl From<StreamFault> for Fault {
-    ghost from_gives = { λ fault told. told ≡ of_stream fault };
-
-    fn from(fault: StreamFault) -> Self {
-        match fault {
-            StreamFault::Read => Fault::Read,
-            StreamFault::Write => Fault::Write,
-            StreamFault::Memory => Fault::Memory,
-        }
-    }
-}
-
-impl From<SettingsFault> for Fault {
-    ghost from_gives = { λ fault told. told ≡ of_settings fault };
-
-    fn from(fault: SettingsFault) -> Self {
-        match fault {
-            SettingsFault::Config => Fault::Config,
-            SettingsFault::Memory => Fault::Memory,
         }
     }
 }

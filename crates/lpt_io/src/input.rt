@@ -3,7 +3,8 @@
 ghost use Rattle.std.specs.Prelude.{◌≡◌, ◌≢◌, codes};
 
 use crate::counts::octets_word;
-use crate::end::{Failure, tell_place};
+use crate::end::{Failure, tell_text};
+use crate::ended::{done_at, failure_at};
 use crate::fault::Fault;
 use crate::machine::Machine;
 use crate::progress::{Paced, Voice};
@@ -12,7 +13,6 @@ use crate::{Chain, SourceSpan};
 use lpt_capture::Captured;
 use lpt_packet::Octets;
 use lpt_text::{End, FromStd, read_text};
-use std::alloc::Global;
 use std::fs::{File, OpenFile};
 use std::io::{self, Input, Read};
 use std::rt::Files;
@@ -67,16 +67,22 @@ pub type Packets<R> = SourceSpan<Chain<Captured<Incoming<R>>>>;
 ///
 /// Errors: `Read` if it can't be opened.
 pub fn open_input<R: Machine>(rt: &R, path: &str) -> Result<Incoming<R>, Failure> {
-    let input = Paced::new(input_at(rt, path)?, None);
-    Ok(FromStd::new(Watched::new(input)))
+    open_paced(rt, path, None)
 }
 
-// The same of a long reading: this voice tells how far it is.
+// The same; of a long reading a voice tells how far it is.
 //
 // Errors: `Read` if it can't be opened.
-fn opened_long<R: Machine>(rt: &R, path: &str, voice: Voice) -> Result<Incoming<R>, Failure> {
+fn open_paced<R: Machine>(
+    rt: &R,
+    path: &str,
+    voice: Option<Voice>,
+) -> Result<Incoming<R>, Failure> {
     let input = input_at(rt, path)?;
-    let pace = voice.pace(rt, input.size());
+    let pace = match voice {
+        Some(voice) => voice.pace(rt, input.size()),
+        None => None,
+    };
     Ok(FromStd::new(Watched::new(Paced::new(input, pace))))
 }
 
@@ -87,13 +93,8 @@ pub fn input_at<R: Files + Input + AllocGlobal>(rt: &R, path: &str) -> Result<Or
     if path == STANDARD {
         return Ok(Origin::Standard(rt.reader()));
     }
-    match File::open(rt, path) {
-        Ok(file) => Ok(Origin::File(file)),
-        Err(error) => {
-            let place = format!(in rt.alloc(); "{path}: {error}");
-            Err(Failure::at(Fault::Read, place))
-        }
-    }
+    let file = done_at(rt, Fault::Read, path, File::open(rt, path))?;
+    Ok(Origin::File(file))
 }
 
 /// The octets of packets in the files at these paths, `-` for standard input, from a place up to
@@ -108,33 +109,12 @@ pub fn opened_packets<R: Machine>(
     to: Option<u64>,
 ) -> Result<Packets<R>, Failure> {
     let mut sources = Vec::new(rt.alloc());
-    match open_each(rt, voice, paths, &mut sources) {
-        Ok(()) => {
-            let before = from.unwrap_or(0);
-            let left = to.map(|to| to.saturating_sub(before));
-            Ok(SourceSpan::new(Chain::new(sources), before, left))
-        }
-        Err(failure) => {
-            drop(sources);
-            Err(failure)
-        }
-    }
-}
-
-// Opens the files at these paths.
-fn open_each<R: Machine>(
-    rt: &R,
-    voice: Voice,
-    paths: &[&str],
-    sources: &mut Vec<Captured<Incoming<R>>>,
-) -> Result<(), Failure> {
     for path in paths {
-        let source = Captured::new(opened_long(rt, path, voice)?);
-        if sources.push(source).is_err() {
-            return Err(Failure::from(Fault::Memory));
-        }
+        sources.push(Captured::new(open_paced(rt, path, Some(voice))?))?;
     }
-    Ok(())
+    let before = from.unwrap_or(0);
+    let left = to.map(|to| to.saturating_sub(before));
+    Ok(SourceSpan::new(Chain::new(sources), before, left))
 }
 
 /// What is read at this path, as messages name it.
@@ -171,9 +151,7 @@ pub fn octets_from<R: Machine>(
     let mut octets = Vec::new(rt.alloc());
     for _ in 0..TEXTS_AT_MOST {
         let (text, end) = read_text(rt.alloc(), source)?;
-        if octets.extend_from_slice(&text).is_err() {
-            return Err(Failure::from(Fault::Memory));
-        }
+        octets.extend_from_slice(&text)?;
         match end {
             End::Whole => break,
             End::Failed => return Err(read_failure(rt, source.inner(), path)),
@@ -186,10 +164,10 @@ pub fn octets_from<R: Machine>(
 /// Why what is read at this path failed.
 pub fn read_failure<I>(rt: &impl AllocGlobal, input: &Watched<I>, path: &str) -> Failure {
     let name = name_of(path);
-    let place = match input.error() {
-        Some(error) => format!(in rt.alloc(); "{name}: {error}"),
-        None => format!(in rt.alloc(); "{name}: its places go past 18446744073709551615"),
-    };
+    if let Some(error) = input.error() {
+        return failure_at(rt, Fault::Read, name, error);
+    }
+    let place = format!(in rt.alloc(); "{name}: its places go past 18446744073709551615");
     Failure::at(Fault::Read, place)
 }
 
@@ -208,30 +186,23 @@ pub fn packets_end<R: Machine>(
     if failed {
         return Some(packets_failure(rt, packets, paths));
     }
-    if let Some(text) = short_text(rt.alloc(), packets.before()) {
-        tell_place(rt, text.as_str());
+    let before = packets.before();
+    if before > 0 {
+        let octets = octets_word(usize::try_from(before).unwrap_or(usize::MAX));
+        tell_text(
+            rt,
+            format!(in rt.alloc(); "--from is {before} {octets} beyond the end"),
+        );
     }
-    if !voice.tells() {
-        return None;
-    }
-    for (captured, path) in packets.source().sources().iter().zip(paths) {
-        if let Some(fault) = captured.fault() {
-            let name = name_of(path);
-            if let Ok(text) = format!(in rt.alloc(); "{name}: {fault}") {
-                tell_place(rt, text.as_str());
+    if voice.tells() {
+        for (captured, path) in packets.source().sources().iter().zip(paths) {
+            if let Some(fault) = captured.fault() {
+                let name = name_of(path);
+                tell_text(rt, format!(in rt.alloc(); "{name}: {fault}"));
             }
         }
     }
     None
-}
-
-// That the place from which on packets are read is so many octets behind their end, if it is.
-fn short_text(alloc: Global, before: u64) -> Option<String> {
-    if before == 0 {
-        return None;
-    }
-    let octets = octets_word(usize::try_from(before).unwrap_or(usize::MAX));
-    format!(in alloc; "--from is {before} {octets} beyond the end").ok()
 }
 
 // Why the packets that are read at these paths failed: what is wrong with a capture, or the read.

@@ -4,14 +4,12 @@ ghost use Rattle.std.specs.Prelude.{IfOk, IfSome};
 ghost use Rattle.lpt_carried.specs.Layouts.{SizesFit};
 ghost use Rattle.lpt_part.specs.Splitting.{IsPartSize};
 
-use crate::configuration::read_file;
-use crate::end::{Failure, tell_place};
+use crate::configuration::{complaint, read_file, text_of};
+use crate::end::{Failure, tell_text};
 use lpt_carried::{Layouts, Reading};
 use lpt_layout_file::{read_layouts, why_refused};
 use lpt_packet::Direction;
-use std::alloc::{AllocError, Global};
 use std::rt::Files;
-use std::str;
 
 /// The layouts of the file at this path; none if they are refused, after standard error was told
 /// where and why.
@@ -25,32 +23,16 @@ pub fn layouts_at(
     ensures { IfOk result (λ l. IfSome l SizesFit) }
 {
     let octets = read_file(rt, path)?;
-    let place = match str::from_utf8(octets.as_slice()) {
+    let place = match text_of(rt.alloc(), path, &octets) {
         Ok(text) => match read_layouts(rt.alloc(), text) {
             Some(layouts) => return Ok(Some(layouts)),
-            None => complaint(rt.alloc(), path, text),
+            None => complaint(rt.alloc(), path, why_refused(rt.alloc(), text)),
         },
-        Err(error) => {
-            let octet = error.valid_up_to().saturating_add(1);
-            format!(in rt.alloc(); "{path}: octet {octet} isn't UTF-8")
-        }
+        Err(place) => place,
     };
     let _ = rt.eprintln("layout refused");
-    if let Ok(place) = place {
-        tell_place(rt, place.as_str());
-    }
+    tell_text(rt, place);
     Ok(None)
-}
-
-// Where the text of the file at this path is refused, and why.
-fn complaint(alloc: Global, path: &str, text: &str) -> Result<String, AllocError> {
-    match why_refused(alloc, text)? {
-        Some(complaint) => match complaint.line() {
-            Some(line) => format!(in alloc; "{path}:{line}: {complaint}"),
-            None => format!(in alloc; "{path}: {complaint}"),
-        },
-        None => format!(in alloc; "{path}: refused"),
-    }
 }
 
 /// The layouts of the file at this path; or, if none is given, the profile's with parts of `p`

@@ -1,10 +1,10 @@
 //! A file that no other process uses.
 
 use crate::end_machine::EndMachine;
+use crate::ended::{done_at, failure_at};
 use crate::{Failure, Fault, file_behind};
 use std::fs::{OpenFile, OpenOptions, TryLockError};
 use std::io::{self, Read, Write};
-use std::rt::Files;
 use std::thread;
 use std::time::Duration;
 
@@ -21,7 +21,7 @@ const TRIES: u32 = 500;
 ///
 /// Errors: as of `locked_file`.
 pub fn awaited_lock<R: EndMachine>(rt: &R, process: u32, path: &str) -> Result<R::File, Failure> {
-    let path = path_behind(rt, path)?;
+    let path = done_at(rt, Fault::Read, path, file_behind(rt, path))?;
     let path = path.as_str();
     for _ in 0..TRIES {
         if let Some(lock) = free_lock(rt, process, path)? {
@@ -52,23 +52,10 @@ pub fn locked_file<R: EndMachine>(
     process: u32,
     path: &str,
 ) -> Result<(String, R::File), Failure> {
-    let path = path_behind(rt, path)?;
+    let path = done_at(rt, Fault::Read, path, file_behind(rt, path))?;
     match free_lock(rt, process, path.as_str())? {
         Some(lock) => Ok((path, lock)),
         None => Err(in_use(rt, path.as_str())),
-    }
-}
-
-// The path of the file to which this one leads.
-//
-// Errors: `Read`.
-fn path_behind(rt: &(impl Files + AllocGlobal), path: &str) -> Result<String, Failure> {
-    match file_behind(rt, path) {
-        Ok(path) => Ok(path),
-        Err(error) => {
-            let place = format!(in rt.alloc(); "{path}: {error}");
-            Err(Failure::at(Fault::Read, place))
-        }
     }
 }
 
@@ -76,40 +63,26 @@ fn path_behind(rt: &(impl Files + AllocGlobal), path: &str) -> Result<String, Fa
 //
 // Errors: `Write` if it can't be had, or the file of its name is no lock's.
 fn free_lock<R: EndMachine>(rt: &R, process: u32, path: &str) -> Result<Option<R::File>, Failure> {
-    let Ok(name) = format!(in rt.alloc(); "{path}.lock") else {
-        return Err(Failure::from(Fault::Memory));
-    };
+    let name = format!(in rt.alloc(); "{path}.lock")?;
+    let name = name.as_str();
     // Once it was read and emptied, what is appended stands at its front.
     let mut options = OpenOptions::new();
     options.read(true).write(true).append(true).create(true);
-    let mut file = match options.open(rt, name.as_str()) {
-        Ok(file) => file,
-        Err(error) => return Err(not_locked(rt, name.as_str(), &error)),
+    let mut file = done_at(rt, Fault::Write, name, options.open(rt, name))?;
+    let ended = match rt.try_lock(&file) {
+        Ok(()) => match is_lock(&mut file) {
+            Ok(true) => {
+                write_number(process, &mut file);
+                return Ok(Some(file));
+            }
+            Ok(false) => Err(no_lock(rt, name)),
+            Err(error) => Err(failure_at(rt, Fault::Write, name, &error)),
+        },
+        Err(TryLockError::WouldBlock) => Ok(None),
+        Err(TryLockError::Error(error)) => Err(failure_at(rt, Fault::Write, name, &error)),
     };
-    match rt.try_lock(&file) {
-        Ok(()) => {}
-        Err(fault) => {
-            drop(file);
-            return match fault {
-                TryLockError::WouldBlock => Ok(None),
-                TryLockError::Error(error) => Err(not_locked(rt, name.as_str(), &error)),
-            };
-        }
-    }
-    match is_lock(&mut file) {
-        Ok(true) => {
-            write_number(process, &mut file);
-            Ok(Some(file))
-        }
-        Ok(false) => {
-            drop(file);
-            Err(no_lock(rt, name.as_str()))
-        }
-        Err(error) => {
-            drop(file);
-            Err(not_locked(rt, name.as_str(), &error))
-        }
-    }
+    drop(file);
+    ended
 }
 
 // That another process uses the file.
@@ -117,12 +90,6 @@ fn in_use(rt: &impl AllocGlobal, path: &str) -> Failure {
     let place = format!(in rt.alloc();
         "{path}: another process uses it, the one whose number stands in {path}.lock"
     );
-    Failure::at(Fault::Write, place)
-}
-
-// That the lock can't be had.
-fn not_locked(rt: &impl AllocGlobal, name: &str, error: &io::Error) -> Failure {
-    let place = format!(in rt.alloc(); "{name}: {error}");
     Failure::at(Fault::Write, place)
 }
 

@@ -1,7 +1,7 @@
 //! How far a reading is, and how long it still takes.
 
 ghost use Rattle.std.specs.Prelude.{◌≡◌};
-ghost use Rattle.lpt_io.specs.Paces.{percent, rest_at, seconds_left};
+ghost use Rattle.lpt_io.specs.Paces.{percent, seconds_left};
 
 use std::alloc::{AllocError, Global};
 
@@ -21,16 +21,6 @@ fn percent_of(done: u64, whole: u64) -> u128
     u128::from(done) * 100 / u128::from(whole)
 }
 
-// In how many seconds the rest comes, at so many octets in a second.
-fn seconds_at(rate: u128, rest: u64) -> Option<u128>
-    ensures { result ≡ rest_at rate rest }
-{
-    if rate == 0 {
-        return None;
-    }
-    Some(u128::from(rest) / rate)
-}
-
 // How many seconds are left of a reading of so many octets, of which so many came in so many
 // milliseconds.
 fn seconds_of(done: u64, whole: u64, millis: u64) -> Option<u128>
@@ -40,7 +30,10 @@ fn seconds_of(done: u64, whole: u64, millis: u64) -> Option<u128>
         return None;
     }
     let rate = u128::from(done) * 1_000 / u128::from(millis);
-    seconds_at(rate, whole.saturating_sub(done))
+    if rate == 0 {
+        return None;
+    }
+    Some(u128::from(whole.saturating_sub(done)) / rate)
 }
 
 /// The line that tells of a reading of which so many octets came in so many milliseconds, of so many
@@ -56,20 +49,9 @@ pub(crate) fn pace_line(
         return format!(in alloc; "lpt: {done} octets{CLEAR}\r");
     };
     let percent = percent_of(done, whole);
-    match seconds_of(done, whole, millis) {
-        None => format!(in alloc; "lpt: {done} of {whole} octets, {percent}%{CLEAR}\r"),
-        Some(seconds) => timed_line(alloc, done, whole, percent, seconds),
-    }
-}
-
-// The same of a reading that takes so many seconds more. The only error is out of memory.
-fn timed_line(
-    alloc: Global,
-    done: u64,
-    whole: u64,
-    percent: u128,
-    seconds: u128,
-) -> Result<String, AllocError> {
+    let Some(seconds) = seconds_of(done, whole, millis) else {
+        return format!(in alloc; "lpt: {done} of {whole} octets, {percent}%{CLEAR}\r");
+    };
     let (minutes, rest) = (seconds / 60, seconds % 60);
     if minutes == 0 {
         return format!(in alloc;

@@ -1,9 +1,9 @@
 //! Files that are written whole, or not at all.
 
 use crate::end::Failure;
+use crate::ended::done_at;
 use crate::fault::Fault;
 use crate::{Disk, part_of};
-use std::alloc::Global;
 use std::fs::{File, Metadata, OpenFile, OpenOptions};
 use std::io::{ErrorKind, Write};
 use std::os::unix::fs::{MetadataExt, OpenOptionsExt, fchown};
@@ -22,7 +22,7 @@ pub fn write_beside<R: Files + AllocGlobal>(
     path: &str,
     octets: &[u8],
 ) -> Result<(), Failure> {
-    let part = part_name(rt.alloc(), path)?;
+    let part = part_of(rt.alloc(), path)?;
     crate::write_whole(&mut PlainDisk { rt }, part.as_str(), path, octets)
 }
 
@@ -40,11 +40,8 @@ pub fn write_for_good<R: Files + AllocGlobal>(
 where
     R::File: AsFd,
 {
-    let path = match file_behind(rt, path) {
-        Ok(path) => path,
-        Err(error) => return Err(not_written(rt.alloc(), path, &error)),
-    };
-    let part = part_name(rt.alloc(), path.as_str())?;
+    let path = done_at(rt, Fault::Write, path, file_behind(rt, path))?;
+    let part = part_of(rt.alloc(), path.as_str())?;
     crate::saving_disk::write_for_good(&mut ForcedDisk { rt }, part.as_str(), path.as_str(), octets)
 }
 
@@ -53,16 +50,12 @@ where
 ///
 /// Errors: `Write`.
 pub fn check_place(rt: &(impl Files + AllocGlobal), path: &str) -> Result<(), Failure> {
-    match find_place(rt, path) {
-        Ok(()) => Ok(()),
-        Err(error) => Err(not_written(rt.alloc(), path, &error)),
-    }
+    done_at(rt, Fault::Write, path, find_place(rt, path))
 }
 
 // Finds a file at a path, or nothing in a folder that is there.
 fn find_place(rt: &(impl Files + AllocGlobal), path: &str) -> io::Result<()> {
-    let known = known_at(rt, path)?;
-    if known.is_some() {
+    if known_at(rt, path)?.is_some() {
         return Ok(());
     }
     let path = file_behind(rt, path)?;
@@ -74,19 +67,10 @@ fn find_place(rt: &(impl Files + AllocGlobal), path: &str) -> io::Result<()> {
     if folder == "." {
         return Ok(());
     }
-    let known = fs::metadata(rt, folder)?;
-    if known.is_dir() {
+    if fs::metadata(rt, folder)?.is_dir() {
         Ok(())
     } else {
         Err(io::Error::from(ErrorKind::NotADirectory))
-    }
-}
-
-// The name under which a file is written first.
-fn part_name(alloc: Global, path: &str) -> Result<String, Failure> {
-    match part_of(alloc, path) {
-        Ok(part) => Ok(part),
-        Err(_) => Err(Failure::from(Fault::Memory)),
     }
 }
 
@@ -105,17 +89,16 @@ impl<R: Files + AllocGlobal> Disk for PlainDisk<'_, R> {
     ghost found = { λ _. None };
 
     fn put(&mut self, path: &str, like: &str, octets: &[u8]) -> Result<(), Failure> {
-        match fs::write(self.rt, path, octets) {
-            Ok(()) => Ok(()),
-            Err(error) => Err(not_written(self.rt.alloc(), like, &error)),
-        }
+        done_at(
+            self.rt,
+            Fault::Write,
+            like,
+            fs::write(self.rt, path, octets),
+        )
     }
 
     fn rename(&mut self, from: &str, to: &str) -> Result<(), Failure> {
-        match fs::rename(self.rt, from, to) {
-            Ok(()) => Ok(()),
-            Err(error) => Err(not_written(self.rt.alloc(), to, &error)),
-        }
+        done_at(self.rt, Fault::Write, to, fs::rename(self.rt, from, to))
     }
 
     fn settle(&mut self, _path: &str) -> Result<(), Failure> {
@@ -146,34 +129,20 @@ where
     ghost found = { λ _. None };
 
     fn put(&mut self, path: &str, like: &str, octets: &[u8]) -> Result<(), Failure> {
-        let old = match known_at(self.rt, like) {
-            Ok(old) => old,
-            Err(error) => return Err(not_written(self.rt.alloc(), like, &error)),
-        };
-        let mut file = match part_opened(self.rt, path, old.is_some()) {
-            Ok(file) => file,
-            Err(error) => return Err(not_written(self.rt.alloc(), path, &error)),
-        };
+        let old = done_at(self.rt, Fault::Write, like, known_at(self.rt, like))?;
+        let part = part_opened(self.rt, path, old.is_some());
+        let mut file = done_at(self.rt, Fault::Write, path, part)?;
         let put = put_all(&mut file, &old, octets);
         drop(file);
-        match put {
-            Ok(()) => Ok(()),
-            Err(error) => Err(not_written(self.rt.alloc(), like, &error)),
-        }
+        done_at(self.rt, Fault::Write, like, put)
     }
 
     fn rename(&mut self, from: &str, to: &str) -> Result<(), Failure> {
-        match fs::rename(self.rt, from, to) {
-            Ok(()) => Ok(()),
-            Err(error) => Err(not_written(self.rt.alloc(), to, &error)),
-        }
+        done_at(self.rt, Fault::Write, to, fs::rename(self.rt, from, to))
     }
 
     fn settle(&mut self, path: &str) -> Result<(), Failure> {
-        match folder_forced(self.rt, path) {
-            Ok(()) => Ok(()),
-            Err(error) => Err(not_written(self.rt.alloc(), path, &error)),
-        }
+        done_at(self.rt, Fault::Write, path, folder_forced(self.rt, path))
     }
 
     fn remove(&mut self, path: &str) {
@@ -203,36 +172,26 @@ pub fn file_behind(rt: &(impl Files + AllocGlobal), path: &str) -> io::Result<St
 
 // Where the symbolic link at a path leads, if there is one.
 fn link_at(rt: &(impl Files + AllocGlobal), path: &str) -> io::Result<Option<String>> {
-    let target = fs::read_link(rt, path);
-    if let Err(error) = &target {
-        if matches!(error.kind(), ErrorKind::InvalidInput | ErrorKind::NotFound) {
-            return Ok(None);
-        }
+    match fs::read_link(rt, path) {
+        Ok(target) => Ok(Some(target.into_string())),
+        Err(error) => match error.kind() {
+            ErrorKind::InvalidInput | ErrorKind::NotFound => Ok(None),
+            _ => Err(error),
+        },
     }
-    Ok(Some(target?.into_string()))
 }
 
 // What the system knows of the file at a path, if there is one. It is an error if it is
 // anything else than a file.
 fn known_at(rt: &impl Files, path: &str) -> io::Result<Option<Metadata>> {
-    let known = fs::metadata(rt, path);
-    if let Err(error) = &known {
-        if error.kind() == ErrorKind::NotFound {
-            return Ok(None);
-        }
+    match fs::metadata(rt, path) {
+        Ok(known) if known.is_file() => Ok(Some(known)),
+        Ok(_) => Err(io::Error::new(ErrorKind::InvalidInput, "it is no file")),
+        Err(error) => match error.kind() {
+            ErrorKind::NotFound => Ok(None),
+            _ => Err(error),
+        },
     }
-    let known = known?;
-    if known.is_file() {
-        Ok(Some(known))
-    } else {
-        Err(io::Error::new(ErrorKind::InvalidInput, "it is no file"))
-    }
-}
-
-// That a file couldn't be written.
-fn not_written(alloc: Global, path: &str, error: &io::Error) -> Failure {
-    let place = format!(in alloc; "{path}: {error}");
-    Failure::at(Fault::Write, place)
 }
 
 // A new file under the other name, in place of one that a process which died has left. If it is
@@ -280,9 +239,14 @@ fn make_alike<F: OpenFile + AsFd>(file: &F, old: &Metadata) {
 
 // The folder in which a file stands.
 fn folder_of(path: &str) -> &str {
+    split_path(path).0
+}
+
+// The folder in which a file stands, and its name there.
+pub(crate) fn split_path(path: &str) -> (&str, &str) {
     match path.rsplit_once('/') {
-        None => ".",
-        Some(("", _)) => "/",
-        Some((folder, _)) => folder,
+        None => (".", path),
+        Some(("", name)) => ("/", name),
+        Some(both) => both,
     }
 }

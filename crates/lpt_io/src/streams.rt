@@ -3,10 +3,10 @@
 ghost use Rattle.std.specs.Prelude.{◌≡◌, IfErr, IfSome, IsNone, IsOk};
 
 use crate::end::Failure;
+use crate::ended::failure_at;
 use crate::fault::Fault;
 use crate::watched::Watched;
-use lpt_text::{FromStd, StreamFault, flush_out, write_out};
-use std::alloc::Global;
+use lpt_text::{FromStd, flush_out, write_out};
 use std::io;
 use std::io::{BufWriter, ErrorKind, Printer};
 
@@ -30,15 +30,16 @@ pub fn output<R: Print + AllocGlobal>(rt: &R) -> Result<Output<'_, R>, Fault> {
 pub fn finish<R: Print + AllocGlobal>(rt: &R, mut out: Output<'_, R>) -> Result<(), Failure> {
     let flushed = flush_out(&mut out);
     let writer = out.inner().get_ref();
-    let failure = match writer.error() {
-        Some(error) if error.kind() == ErrorKind::BrokenPipe => Some(Failure::unread()),
-        _ => write_failure(rt.alloc(), writer, flushed),
+    let ended = match writer.error() {
+        Some(error) if error.kind() == ErrorKind::BrokenPipe => Err(Failure::unread()),
+        Some(error) => Err(failure_at(rt, Fault::Write, "standard output", error)),
+        None => match flushed {
+            Ok(()) => Ok(()),
+            Err(fault) => Err(Failure::from(fault)),
+        },
     };
     drop(out);
-    match failure {
-        None => Ok(()),
-        Some(failure) => Err(failure),
-    }
+    ended
 }
 
 /// Writes octets to standard output.
@@ -64,21 +65,5 @@ pub fn first_failure(finished: Result<(), Failure>, other: Option<Failure>) -> R
             drop(other);
             Err(failure)
         }
-    }
-}
-
-// Why standard output couldn't be written, if it couldn't.
-fn write_failure<W>(
-    alloc: Global,
-    writer: &Watched<W>,
-    flushed: Result<(), StreamFault>,
-) -> Option<Failure> {
-    if let Some(error) = writer.error() {
-        let place = format!(in alloc; "standard output: {error}");
-        return Some(Failure::at(Fault::Write, place));
-    }
-    match flushed {
-        Ok(()) => None,
-        Err(fault) => Some(Failure::from(fault)),
     }
 }

@@ -1,6 +1,7 @@
 //! Files that a command uses twice.
 
 use crate::file_behind;
+use crate::saving::split_path;
 use lpt_command_line::{SettingWords, SpacecraftWords, TwoUses, WordFault};
 use std::alloc::{AllocError, Global};
 use std::fs::{self, Metadata};
@@ -233,14 +234,5 @@ fn number_of(known: &Metadata) -> Option<(u64, u64)> {
     match known.ino() {
         0 => None,
         number => Some((known.dev(), number)),
-    }
-}
-
-// The folder in which a file stands, and its name there.
-fn split_path(path: &str) -> (&str, &str) {
-    match path.rsplit_once('/') {
-        None => (".", path),
-        Some(("", name)) => ("/", name),
-        Some(both) => both,
     }
 }

@@ -29,35 +29,29 @@ impl<R> Watched<R> {
 
 impl<R: Read> Read for Watched<R> {
     fn read(&mut self, buf: &mut [u8]) -> io::Result<usize> {
-        match self.inner.read(buf) {
-            Ok(count) => Ok(count),
-            Err(error) => {
-                self.error = Some(error);
-                Err(error)
-            }
+        let done = self.inner.read(buf);
+        if let Err(error) = &done {
+            self.error = Some(*error);
         }
+        done
     }
 }
 
 impl<W: Write> Write for Watched<W> {
     fn write(&mut self, buf: &[u8]) -> io::Result<usize> {
-        match self.inner.write(buf) {
-            Ok(count) => Ok(count),
-            Err(error) => {
-                self.error = Some(error);
-                Err(error)
-            }
+        let done = self.inner.write(buf);
+        if let Err(error) = &done {
+            self.error = Some(*error);
         }
+        done
     }
 
     fn flush(&mut self) -> io::Result<()> {
-        match self.inner.flush() {
-            Ok(()) => Ok(()),
-            Err(error) => {
-                self.error = Some(error);
-                Err(error)
-            }
+        let done = self.inner.flush();
+        if let Err(error) = &done {
+            self.error = Some(*error);
         }
+        done
     }
 }
 
