@@ -16,8 +16,8 @@ use lpt_part::{Kind, read_part};
 use lpt_pus::{read_tc, read_tm};
 use lpt_script_text::print_areas;
 use lpt_script_words::read_hex;
-use lpt_text::{End, LONGEST_TEXT, read_text, write_out};
-use std::alloc::AllocError;
+use lpt_text::{End, LONGEST_TEXT, Sink, StreamFault, read_text, write_out};
+use std::alloc::{AllocError, Global};
 
 /// A packet has at least so many octets.
 const LEAST_PACKET: usize = 7;
@@ -121,16 +121,25 @@ fn decode_octets(
     requires { IsPartSize p }
 {
     let mut out = output(rt)?;
-    let decoded = match lpt_script::decode(rt.alloc(), octets, p, &mut out) {
-        Ok(is_faulty) => match write_out(&mut out, behind.as_bytes()) {
-            Ok(()) => Ok(is_faulty),
-            Err(fault) => Err(fault),
-        },
-        Err(fault) => Err(fault),
-    };
+    let decoded = write_decoded(rt.alloc(), octets, behind, p, &mut out);
     let is_faulty = written_ended(rt, out, decoded)?;
     tell_size(rt, octets, p);
     Ok(status_of(is_faulty))
+}
+
+// Writes it, and whether the octets have a fault.
+fn write_decoded<K: Sink>(
+    alloc: Global,
+    octets: &[u8],
+    behind: &str,
+    p: u32,
+    out: &mut K,
+) -> Result<bool, StreamFault>
+    requires { IsPartSize p }
+{
+    let is_faulty = lpt_script::decode(alloc, octets, p, out)?;
+    write_out(out, behind.as_bytes())?;
+    Ok(is_faulty)
 }
 
 // The same with the areas that they name, or with which segment they are.
