@@ -1,5 +1,7 @@
 //! How work ends that read packets or a file, and wrote to standard output.
 
+ghost use Rattle.std.specs.Prelude.{◌≡◌, IfOk};
+
 use crate::end::Failure;
 use crate::fault::Fault;
 use crate::input::{Packets, packets_end, read_failure};
@@ -34,7 +36,9 @@ pub fn read_ended<R: Machine, T: Drop>(
     packets: &Packets<R>,
     paths: &[&str],
     read: Result<T, StreamFault>,
-) -> Result<T, Failure> {
+) -> Result<T, Failure>
+    ensures { IfOk result (λ value. read ≡ Ok value) }
+{
     let failed = matches!(read, Err(StreamFault::Read));
     match (packets_end(rt, voice, packets, paths, failed), read) {
         (None, Ok(value)) => Ok(value),
@@ -56,7 +60,9 @@ pub fn carried_ended<R: Machine, T: Drop>(
     paths: &[&str],
     out: Output<'_, R>,
     carried: Result<T, StreamFault>,
-) -> Result<T, Failure> {
+) -> Result<T, Failure>
+    ensures { IfOk result (λ value. carried ≡ Ok value) }
+{
     let ended = read_ended(rt, voice, packets, paths, carried);
     with_output(rt, out, ended)
 }
@@ -70,7 +76,9 @@ pub fn copied_ended<I, R: Print + AllocGlobal, T: Drop>(
     path: &str,
     out: Output<'_, R>,
     copied: Result<T, StreamFault>,
-) -> Result<T, Failure> {
+) -> Result<T, Failure>
+    ensures { IfOk result (λ value. copied ≡ Ok value) }
+{
     let ended = match copied {
         Ok(value) => Ok(value),
         Err(StreamFault::Read) => Err(read_failure(rt, input, path)),
@@ -86,7 +94,9 @@ pub fn written_ended<R: Print + AllocGlobal, T: Drop>(
     rt: &R,
     out: Output<'_, R>,
     written: Result<T, StreamFault>,
-) -> Result<T, Failure> {
+) -> Result<T, Failure>
+    ensures { IfOk result (λ value. written ≡ Ok value) }
+{
     let ended = match written {
         Ok(value) => Ok(value),
         Err(fault) => Err(Failure::from(fault)),
@@ -99,7 +109,9 @@ fn with_output<R: Print + AllocGlobal, T: Drop>(
     rt: &R,
     out: Output<'_, R>,
     ended: Result<T, Failure>,
-) -> Result<T, Failure> {
+) -> Result<T, Failure>
+    ensures { IfOk result (λ value. ended ≡ Ok value) }
+{
     match finish(rt, out) {
         Ok(()) => ended,
         Err(failure) => {
