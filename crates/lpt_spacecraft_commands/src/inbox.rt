@@ -72,9 +72,7 @@ where
         ticker: Ticker<R>,
     ) -> Result<Self, Failure> {
         let alloc = rt.alloc();
-        let Ok((to, from)) = bounded(alloc, READ_AHEAD) else {
-            return Err(Failure::from(Fault::Memory));
-        };
+        let (to, from) = bounded(alloc, READ_AHEAD)?;
         let handing = Handing {
             waits: *threads,
             to,

@@ -39,9 +39,7 @@ pub fn kept_files<'a, R: LastingFiles + AllocGlobal>(
     if words.save {
         for (id, path) in &words.memories {
             let file = MachineFile { rt, path: *path };
-            if saved.push((*id, file)).is_err() {
-                return Err(Failure::from(Fault::Memory));
-            }
+            saved.push((*id, file))?;
         }
     }
     let state = match state {
@@ -75,7 +73,7 @@ pub fn save_all(
     for (id, path) in &words.memories {
         let mut file = MachineFile { rt, path: *path };
         match save_one(&mut file, craft, *id) {
-            Err(failure) if !is_how_it_ended(&ended, &failure) => {
+            Err(failure) if !matches!(&ended, Err(other) if failure.reads_like(other)) => {
                 if let Some(before) = last {
                     tell_end(rt, Err(before));
                 }
@@ -90,13 +88,5 @@ pub fn save_all(
             tell_end(rt, ended);
             Err(failure)
         }
-    }
-}
-
-// Whether a run ended with this failure.
-fn is_how_it_ended(ended: &Result<Status, Failure>, failure: &Failure) -> bool {
-    match ended {
-        Ok(_) => false,
-        Err(other) => failure.reads_like(other),
     }
 }

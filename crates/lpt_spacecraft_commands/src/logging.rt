@@ -2,7 +2,7 @@
 
 ghost use Rattle.std.specs.Prelude.{None};
 
-use lpt_io::tell_place;
+use lpt_io::tell_text;
 use lpt_spacecraft::{Listener, Told, print_told};
 
 /// Tells on standard error what happens, or only that a source has no free name left, and where
@@ -51,9 +51,7 @@ impl<'a, R: Eprint + AllocGlobal> Log<'a, R> {
             }
             _ => return,
         };
-        if let Ok(text) = text {
-            tell_place(self.rt, text.as_str());
-        }
+        tell_text(self.rt, text);
     }
 }
 

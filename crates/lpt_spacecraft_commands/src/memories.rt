@@ -1,7 +1,7 @@
 //! The memories whose first contents are files.
 
 use lpt_command_line::SpacecraftWords;
-use lpt_io::{Failure, Fault, Machine, octets_from, open_input};
+use lpt_io::{Failure, Fault, Machine, failure_at, file_at};
 use lpt_memory::{MEMORY_LIMIT, Memories, SIZE_LIMIT};
 use lpt_packet::Octets;
 use std::fs;
@@ -23,35 +23,19 @@ pub fn check_memories(
         return Err(Failure::at(Fault::Config, place));
     }
     for (number, (id, file)) in words.memories.iter().enumerate() {
-        check_memory(rt, words, number, *id, file)?;
+        for (known, _) in words.memories.iter().take(number) {
+            if *known == *id {
+                let place = format!(in rt.alloc();
+                    "--memory {id}={file}: there is a memory {id} already"
+                );
+                return Err(Failure::at(Fault::Config, place));
+            }
+        }
+        if let Err(error) = fs::metadata(rt, file) {
+            return Err(failure_at(rt, Fault::Read, file, &error));
+        }
     }
     Ok(())
-}
-
-// Refuses the memory of this number, from 0 on, if there was one of its identifier before it, or if
-// its file isn't there.
-fn check_memory(
-    rt: &(impl Files + AllocGlobal),
-    words: &SpacecraftWords<'_>,
-    number: usize,
-    id: u8,
-    file: &str,
-) -> Result<(), Failure> {
-    for (known, _) in words.memories.iter().take(number) {
-        if *known == id {
-            let place = format!(in rt.alloc();
-                "--memory {id}={file}: there is a memory {id} already"
-            );
-            return Err(Failure::at(Fault::Config, place));
-        }
-    }
-    match fs::metadata(rt, file) {
-        Ok(_) => Ok(()),
-        Err(error) => {
-            let place = format!(in rt.alloc(); "{file}: {error}");
-            Err(Failure::at(Fault::Read, place))
-        }
-    }
 }
 
 /// The memories whose first contents are the files that the words name.
@@ -60,32 +44,14 @@ fn check_memory(
 /// `check_memories`; `Memory`.
 pub fn memories_of(rt: &impl Machine, words: &SpacecraftWords<'_>) -> Result<Memories, Failure> {
     let mut list = Vec::new(rt.alloc());
-    match read_memories(rt, words, &mut list) {
-        Ok(()) => {}
-        Err(failure) => {
-            drop(list);
-            return Err(failure);
-        }
+    for (id, file) in &words.memories {
+        let octets = read_one(rt, file)?;
+        list.push((*id, octets))?;
     }
     match Memories::new(list) {
         Ok(memories) => Ok(memories),
         Err(_) => Err(Failure::from(Fault::Config)),
     }
-}
-
-// Reads each file.
-fn read_memories(
-    rt: &impl Machine,
-    words: &SpacecraftWords<'_>,
-    list: &mut Vec<(u8, Octets)>,
-) -> Result<(), Failure> {
-    for (id, file) in &words.memories {
-        let octets = read_one(rt, file)?;
-        if list.push((*id, octets)).is_err() {
-            return Err(Failure::from(Fault::Memory));
-        }
-    }
-    Ok(())
 }
 
 // The octets of a file that can be a memory. One that says beforehand that it is too long isn't
@@ -96,10 +62,7 @@ fn read_one(rt: &impl Machine, file: &str) -> Result<Octets, Failure> {
             return Err(wrong_size(rt, file, known.len()));
         }
     }
-    let mut source = open_input(rt, file)?;
-    let octets = octets_from(rt, file, &mut source);
-    drop(source);
-    let octets = octets?;
+    let octets = file_at(rt, file)?;
     let len = octets.as_slice().len();
     if len == 0 || len > SIZE_LIMIT {
         drop(octets);

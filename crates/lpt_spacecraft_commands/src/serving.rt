@@ -10,8 +10,8 @@ use crate::wires::{Wires, serve_kept};
 use lpt_command_line::{SettingWords, SpacecraftWords};
 use lpt_events::Config;
 use lpt_io::{
-    EndMachine, Failure, Fault, Machine, PlainMachine, Status, UsedFile, add_craft_files,
-    add_settings_file, locked_file, octets_from, open_input, settings_of, used_twice, word_refused,
+    EndMachine, Failure, Fault, Machine, PlainMachine, Status, add_craft_files, add_settings_file,
+    failure_at, file_at, locked_file, settings_of, used_twice, word_refused,
 };
 use lpt_memory::Memories;
 use lpt_spacecraft::Spacecraft;
@@ -43,7 +43,9 @@ where
     R: EndMachine,
     T: Threads + Wait + Clock + Copy + Drop + Send + 'static,
 {
-    let files = files_used(rt.alloc(), settings, words)?;
+    let mut files = Vec::new(rt.alloc());
+    add_settings_file(&mut files, settings)?;
+    add_craft_files(&mut files, words)?;
     if let Some(fault) = used_twice(rt, &files) {
         return Ok(word_refused(rt, rt.alloc(), &fault));
     }
@@ -52,31 +54,6 @@ where
     let ended = serve(rt, threads, begun, words, wires);
     drop(locks);
     ended
-}
-
-// The files that these words use.
-//
-// Errors: `Memory`.
-fn files_used<'a>(
-    alloc: Global,
-    settings: &SettingWords<'a>,
-    words: &SpacecraftWords<'a>,
-) -> Result<Vec<UsedFile<'a>>, Failure> {
-    let mut files = Vec::new(alloc);
-    match add_files(&mut files, settings, words) {
-        Ok(()) => Ok(files),
-        Err(_) => Err(Failure::from(Fault::Memory)),
-    }
-}
-
-// Adds them. The only error is out of memory.
-fn add_files<'a>(
-    files: &mut Vec<UsedFile<'a>>,
-    settings: &SettingWords<'a>,
-    words: &SpacecraftWords<'a>,
-) -> Result<(), AllocError> {
-    add_settings_file(files, settings)?;
-    add_craft_files(files, words)
 }
 
 /// A spacecraft that serves next.
@@ -108,13 +85,7 @@ pub fn begun_craft<R: EndMachine>(
     words: &SpacecraftWords<'_>,
 ) -> Result<(Begun, Vec<R::File>), Failure> {
     let (config, usual, _) = settings_of(rt, settings)?;
-    let mut locks = match saved_locks(rt, process, words) {
-        Ok(locks) => locks,
-        Err(failure) => {
-            drop(usual);
-            return Err(failure);
-        }
-    };
+    let mut locks = saved_locks(rt, process, words)?;
     // They are read under their locks: what another process saves before that isn't undone.
     let memories = if words.memories.is_empty() {
         usual
@@ -123,20 +94,11 @@ pub fn begun_craft<R: EndMachine>(
         memories_of(rt, words)?
     };
     let Some(path) = words.state else {
-        let craft = new_craft(rt, &config, memories)?;
+        let craft = Spacecraft::new(rt.alloc(), &config, memories)?;
         return Ok((Begun { craft, state: None }, locks));
     };
-    let (path, lock) = match locked_file(rt, process, path) {
-        Ok(both) => both,
-        Err(failure) => {
-            drop(memories);
-            return Err(failure);
-        }
-    };
-    if locks.push(lock).is_err() {
-        drop(memories);
-        return Err(Failure::from(Fault::Memory));
-    }
+    let (path, lock) = locked_file(rt, process, path)?;
+    locks.push(lock)?;
     let craft = craft_begun(rt, &config, memories, words, path.as_str())?;
     let state = Some(path);
     Ok((Begun { craft, state }, locks))
@@ -155,9 +117,7 @@ fn saved_locks<R: EndMachine>(
     if words.save {
         for (_, path) in &words.memories {
             let (_, lock) = locked_file(rt, process, path)?;
-            if locks.push(lock).is_err() {
-                return Err(Failure::from(Fault::Memory));
-            }
+            locks.push(lock)?;
         }
     }
     Ok(locks)
@@ -183,47 +143,14 @@ where
         Some(path) => Some(path.as_str()),
         None => None,
     };
-    let ended = serve_saved(rt, threads, &mut craft, words, path, wires);
+    let ended = serve_kept(rt, threads, &mut craft, words, path, wires);
+    let ended = if words.save {
+        save_all(rt, &craft, words, ended)
+    } else {
+        ended
+    };
     drop(craft);
     ended
-}
-
-// Serves over these wires, keeps the state at this path, if there is one, and saves the memories if
-// that is asked for.
-fn serve_saved<R, T, I>(
-    rt: &R,
-    threads: &T,
-    craft: &mut Spacecraft,
-    words: &SpacecraftWords<'_>,
-    state: Option<&str>,
-    wires: Wires<T, I>,
-) -> Result<Status, Failure>
-where
-    R: PlainMachine,
-    T: Threads + Wait + Clock + Copy + Drop + Send + 'static,
-    I: Read + Drop + Send + 'static,
-    requires { IsIdle craft.old }
-{
-    let ended = serve_kept(rt, threads, craft, words, state, wires);
-    if !words.save {
-        return ended;
-    }
-    save_all(rt, craft, words, ended)
-}
-
-// A spacecraft at which nothing has happened.
-fn new_craft(
-    rt: &impl AllocGlobal,
-    config: &Config,
-    memories: Memories,
-) -> Result<Spacecraft, Failure>
-    requires { IsConfig config.now }
-    ensures { IfOk result IsIdle }
-{
-    match Spacecraft::new(rt.alloc(), config, memories) {
-        Ok(craft) => Ok(craft),
-        Err(_) => Err(Failure::from(Fault::Memory)),
-    }
 }
 
 // The spacecraft that was kept in this file, if its memories are those of the words, or a new one
@@ -240,17 +167,17 @@ fn craft_begun(
 {
     if let Err(error) = fs::metadata(rt, path) {
         if error.kind() == ErrorKind::NotFound {
-            return new_craft(rt, config, memories);
+            return Ok(Spacecraft::new(rt.alloc(), config, memories)?);
         }
         drop(memories);
-        let place = format!(in rt.alloc(); "{path}: {error}");
-        return Err(Failure::at(Fault::Read, place));
+        return Err(failure_at(rt, Fault::Read, path, &error));
     }
-    let craft = match craft_at(rt, config, path) {
+    let octets = file_at(rt, path)?;
+    let craft = match Spacecraft::read_kept(rt.alloc(), config, octets.as_slice()) {
         Ok(craft) => craft,
-        Err(failure) => {
-            drop(memories);
-            return Err(failure);
+        Err(fault) => {
+            let place = format!(in rt.alloc(); "{path}: {fault}");
+            return Err(Failure::at(Fault::Read, place));
         }
     };
     let unlike = unlike_of(rt.alloc(), path, &craft, &memories, words);
@@ -285,22 +212,4 @@ fn unlike_of(
         }
     }
     None
-}
-
-// The spacecraft that was kept in this file.
-fn craft_at(rt: &impl Machine, config: &Config, path: &str) -> Result<Spacecraft, Failure>
-    requires { IsConfig config.now }
-    ensures { IfOk result IsIdle }
-{
-    let mut source = open_input(rt, path)?;
-    let octets = octets_from(rt, path, &mut source);
-    drop(source);
-    let octets = octets?;
-    match Spacecraft::read_kept(rt.alloc(), config, octets.as_slice()) {
-        Ok(craft) => Ok(craft),
-        Err(fault) => {
-            let place = format!(in rt.alloc(); "{path}: {fault}");
-            Err(Failure::at(Fault::Read, place))
-        }
-    }
 }

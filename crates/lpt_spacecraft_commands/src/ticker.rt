@@ -2,7 +2,7 @@
 
 ghost use Rattle.std.specs.Prelude.{None};
 
-use lpt_io::{Failure, Fault};
+use lpt_io::{Failure, Fault, failure_at};
 use std::rt::Clock;
 use std::time::{Duration, Instant};
 
@@ -28,10 +28,7 @@ impl<R: Clock + AllocGlobal + Copy> Ticker<R> {
                 millis: u64::from(millis),
                 told: 0,
             }),
-            Err(error) => {
-                let place = format!(in rt.alloc(); "the clock: {error}");
-                Err(Failure::at(Fault::Read, place))
-            }
+            Err(error) => Err(failure_at(rt, Fault::Read, "the clock", &error)),
         }
     }
 }

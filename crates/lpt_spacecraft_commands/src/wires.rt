@@ -10,11 +10,13 @@ use crate::pipes::{PipeReader, PipeWriter};
 use crate::ticker::{Stopped, Ticker};
 use lpt_command_line::{SpacecraftWords, longest_on_link};
 use lpt_io::{
-    Failure, Fault, PlainMachine, STANDARD, Status, Watched, finish, first_failure, output,
-    read_failure, tell_place,
+    Failure, Fault, PlainMachine, STANDARD, Status, Watched, finish, output, read_failure,
+    tell_text,
 };
-use lpt_spacecraft::{Keeper, Pace, Passing, Spacecraft, Stop, serve_stream, serve_waiting};
-use lpt_text::{FromStd, StreamFault};
+use lpt_spacecraft::{
+    Keeper, Listener, Pace, Passing, Spacecraft, Stop, serve_stream, serve_waiting,
+};
+use lpt_text::{FromStd, Sink, StreamFault};
 use std::io::Read;
 use std::sync::Wait;
 use std::thread::Threads;
@@ -80,82 +82,24 @@ where
     requires idle { IsIdle craft.old }
     requires kept { IsKeptAs (H.kept keeper.old) craft.old }
 {
-    if words.tick == 0 {
-        return serve_input(rt, craft, words, keeper, input);
-    }
-    wait_for_input(rt, threads, craft, words, keeper, input)
-}
-
-// Serves it if no clock ticks.
-fn serve_input<R: PlainMachine, I: Read + Drop, H: Keeper>(
-    rt: &R,
-    craft: &mut Spacecraft,
-    words: &SpacecraftWords<'_>,
-    keeper: &mut H,
-    input: I,
-) -> Result<Status, Failure>
-    requires idle { IsIdle craft.old }
-    requires kept { IsKeptAs (H.kept keeper.old) craft.old }
-{
-    let mut source = FromStd::new(Watched::new(input));
     let mut out = output(rt)?;
-    let pace = pace_of(craft, words);
     let mut log = Log::new(rt, craft.source(), words.log);
-    let ended = serve_stream(
+    let pace = pace_of(craft, words);
+    let ended = serve_input(
+        (rt, threads),
         craft,
-        pace,
-        &mut source,
-        &mut Stopped,
+        (pace, words.tick),
         keeper,
+        input,
         &mut log,
         &mut out,
     );
-    let failure = match ended {
-        Err(StreamFault::Read) => Some(read_failure(rt, source.inner(), STANDARD)),
-        _ => None,
-    };
-    drop(source);
-    first_failure(finish(rt, out), failure)?;
-    match ended {
-        Ok(stop) => Ok(status_at(rt, stop, pace.passing.longest, log.has_skipped())),
-        Err(fault) => Err(Failure::from(fault)),
-    }
-}
-
-// Serves it, and ticks by the machine's clock also while nothing comes.
-fn wait_for_input<R, T, I, H: Keeper>(
-    rt: &R,
-    threads: &T,
-    craft: &mut Spacecraft,
-    words: &SpacecraftWords<'_>,
-    keeper: &mut H,
-    input: I,
-) -> Result<Status, Failure>
-where
-    R: PlainMachine,
-    T: Threads + Wait + Clock + Copy + Drop + Send + 'static,
-    I: Read + Drop + Send + 'static,
-    requires idle { IsIdle craft.old }
-    requires kept { IsKeptAs (H.kept keeper.old) craft.old }
-{
-    let mut clock = Ticker::new(rt, words.tick)?;
-    let source = FromStd::new(input);
-    let pace = pace_of(craft, words);
-    let mut inbox = Inbox::begin(rt, threads, source, pace.passing, clock)?;
-    let mut out = output(rt)?;
-    let mut log = Log::new(rt, craft.source(), words.log);
-    let ended = serve_waiting(
-        craft, pace, &mut inbox, &mut clock, keeper, &mut log, &mut out,
-    );
-    drop(inbox);
-    let failure = match ended {
-        Err(StreamFault::Read) => Some(input_failure(rt)),
-        _ => None,
-    };
-    first_failure(finish(rt, out), failure)?;
-    match ended {
-        Ok(stop) => Ok(status_at(rt, stop, pace.passing.longest, log.has_skipped())),
-        Err(fault) => Err(Failure::from(fault)),
+    match finish(rt, out) {
+        Ok(()) => Ok(status_at(rt, ended?, pace.passing.longest, log.has_skipped())),
+        Err(failure) => {
+            drop(ended);
+            Err(failure)
+        }
     }
 }
 
@@ -175,59 +119,60 @@ where
     requires idle { IsIdle craft.old }
     requires kept { IsKeptAs (H.kept keeper.old) craft.old }
 {
-    if words.tick == 0 {
-        return serve_still(craft, words, keeper, pipes);
-    }
     let (source, out) = pipes;
-    let mut clock = Ticker::new(rt, words.tick)?;
-    let source = FromStd::new(source);
-    let pace = pace_of(craft, words);
-    let mut inbox = Inbox::begin(rt, threads, source, pace.passing, clock)?;
     let mut out = FromStd::new(Watched::new(out));
-    let ended = serve_waiting(
+    let pace = (pace_of(craft, words), words.tick);
+    let ended = serve_input(
+        (rt, threads),
         craft,
         pace,
-        &mut inbox,
-        &mut clock,
         keeper,
+        source,
         &mut Silent,
         &mut out,
     );
-    drop(inbox);
     drop(out);
-    match ended {
-        Ok(_) => Ok(Status::Done),
-        Err(fault) => Err(Failure::from(fault)),
-    }
+    ended?;
+    Ok(Status::Done)
 }
 
-// The same if no clock ticks.
-fn serve_still<T: Wait + Clock + Drop, H: Keeper>(
+// Serves what this reads, and says where it stopped. If a clock ticks so often, it ticks also while
+// nothing comes.
+fn serve_input<R, T, I, H: Keeper, L: Listener, K: Sink>(
+    on: (&R, &T),
     craft: &mut Spacecraft,
-    words: &SpacecraftWords<'_>,
+    paces: (Pace, u32),
     keeper: &mut H,
-    pipes: (PipeReader<T>, PipeWriter<T>),
-) -> Result<Status, Failure>
+    input: I,
+    log: &mut L,
+    out: &mut K,
+) -> Result<Stop, Failure>
+where
+    R: PlainMachine,
+    T: Threads + Wait + Clock + Copy + Drop + Send + 'static,
+    I: Read + Drop + Send + 'static,
     requires idle { IsIdle craft.old }
     requires kept { IsKeptAs (H.kept keeper.old) craft.old }
 {
-    let (source, out) = pipes;
-    let mut source = FromStd::new(source);
-    let mut out = FromStd::new(Watched::new(out));
-    let pace = pace_of(craft, words);
-    let ended = serve_stream(
-        craft,
-        pace,
-        &mut source,
-        &mut Stopped,
-        keeper,
-        &mut Silent,
-        &mut out,
-    );
-    drop(source);
-    drop(out);
+    let ((rt, threads), (pace, tick)) = (on, paces);
+    if tick == 0 {
+        let mut source = FromStd::new(Watched::new(input));
+        let ended = serve_stream(craft, pace, &mut source, &mut Stopped, keeper, log, out);
+        let ended = match ended {
+            Ok(stop) => Ok(stop),
+            Err(StreamFault::Read) => Err(read_failure(rt, source.inner(), STANDARD)),
+            Err(fault) => Err(Failure::from(fault)),
+        };
+        drop(source);
+        return ended;
+    }
+    let mut clock = Ticker::new(rt, tick)?;
+    let mut inbox = Inbox::begin(rt, threads, FromStd::new(input), pace.passing, clock)?;
+    let ended = serve_waiting(craft, pace, &mut inbox, &mut clock, keeper, log, out);
+    drop(inbox);
     match ended {
-        Ok(_) => Ok(Status::Done),
+        Ok(stop) => Ok(stop),
+        Err(StreamFault::Read) => Err(input_failure(rt)),
         Err(fault) => Err(Failure::from(fault)),
     }
 }
@@ -275,8 +220,6 @@ fn status_at(
         }
         Stop::Stray(place, _) => format!(in alloc; "octet {place}: no packet begins there"),
     };
-    if let Ok(text) = text {
-        tell_place(rt, text.as_str());
-    }
+    tell_text(rt, text);
     Status::Refused
 }
