@@ -5,8 +5,8 @@ ghost use Rattle.lpt_events.specs.Configs.{IsConfig};
 use lpt_command_line::{Job, OddsWords, PassWords, SettingWords, UNKEPT};
 use lpt_events::Config;
 use lpt_ground_commands::{
-    Errand, ErrandKind, GroundNotes, Piece, Places, Ready, Teller, check_places, files_used,
-    hear_source, job_lock, limit_of, pieces_of, put_over, ready_of,
+    Errand, ErrandKind, Piece, Places, Ready, Teller, carry_over, check_places, files_used,
+    job_lock, limit_of, pieces_of, ready_of,
 };
 use lpt_ground_run::{Asked, Fate};
 use lpt_io::{
@@ -53,46 +53,18 @@ where
     let Some(pieces) = pieces_of(rt, &words.ground, files)? else {
         return Ok(Status::Unreadable);
     };
-    if !is_kept(words, &pieces) && words.ground.kept.is_some() {
+    let kept = is_kept(words, &pieces);
+    if !kept && words.ground.kept.is_some() {
         return Ok(word_refused(rt, rt.alloc(), &UNKEPT));
     }
     let lock = job_lock(rt, process, &words.ground)?;
-    let ended = fly_locked(
-        rt,
-        threads,
-        process,
-        voice,
-        &settings,
-        words,
-        (&config, pieces),
-    );
-    drop(lock);
-    ended
-}
-
-// Carries these areas under this configuration, if no other process uses the job's file.
-fn fly_locked<R, T>(
-    rt: &R,
-    threads: &T,
-    process: u32,
-    voice: Voice,
-    settings: &SettingWords<'_>,
-    words: &PassWords<'_>,
-    asked: (&Config, Vec<Piece>),
-) -> Result<Status, Failure>
-where
-    R: EndMachine + Sync,
-    T: Threads + Wait + Clock + Copy + Drop + Send + Sync + 'static,
-    requires { IsConfig asked.0.now }
-{
-    let (config, pieces) = asked;
-    let kept = is_kept(words, &pieces);
-    let (craft, locks) = begun_craft(rt, process, settings, &words.craft)?;
-    let Some(ready) = ready_of(rt, process, config, &words.ground, pieces)? else {
+    let (craft, locks) = begun_craft(rt, process, &settings, &words.craft)?;
+    let Some(ready) = ready_of(rt, process, &config, &words.ground, pieces)? else {
         return Ok(Status::Refused);
     };
-    let ended = fly_noted(rt, threads, voice, words, craft, ready);
+    let ended = fly(rt, threads, voice, words, craft, ready);
     drop(locks);
+    drop(lock);
     let status = ended?;
     if !kept {
         Teller::new(voice, words.ground.json).tell_unkept(rt);
@@ -114,27 +86,6 @@ fn is_kept(words: &PassWords<'_>, pieces: &[Piece]) -> bool {
         }
     }
     true
-}
-
-// Carries out what is ready with this spacecraft, from the job's file on, if there is one.
-fn fly_noted<R, T>(
-    rt: &R,
-    threads: &T,
-    voice: Voice,
-    words: &PassWords<'_>,
-    craft: Begun,
-    ready: Ready,
-) -> Result<Status, Failure>
-where
-    R: EndMachine + Sync,
-    T: Threads + Wait + Clock + Copy + Drop + Send + Sync + 'static,
-{
-    let Ready { errand, job } = ready;
-    let notes = GroundNotes::begin(rt, Teller::new(voice, words.ground.json), job);
-    if let (Some(path), Some(lost)) = (words.ground.kept, lost_of(&errand, &craft)) {
-        return Err(memory_lost(rt, path, &lost));
-    }
-    fly(rt, threads, words, craft, errand, notes)
 }
 
 // The first area of which the job's file says that octets were loaded, and the spacecraft has
@@ -180,55 +131,49 @@ fn memory_lost(rt: &impl AllocGlobal, path: &str, places: &Places) -> Failure {
     Failure::at(Fault::Read, place)
 }
 
-// The pipes between ground, the two links and the spacecraft.
-#[derive(Drop)]
-struct Pipes<T: Wait + Drop> {
-    // From ground to the link up, from that to the spacecraft, from there to the link down, and
-    // back to ground.
-    ground_up: (PipeWriter<T>, PipeReader<T>),
-    craft_up: (PipeWriter<T>, PipeReader<T>),
-    craft_down: (PipeWriter<T>, PipeReader<T>),
-    ground_down: (PipeWriter<T>, PipeReader<T>),
-}
+// The two ends of a pipe.
+type Ends<T> = (PipeWriter<T>, PipeReader<T>);
 
-// New pipes. Once ground has ended, what still comes down is dropped; once the spacecraft has, what
-// goes up fails. What goes up waits for the spacecraft, for so long at most, so that repeats don't
-// pile up if its disk is slow; what comes down never waits, so that nobody waits for ever.
+// The pipes from ground to the link up, from that to the spacecraft, from there to the link down,
+// and back to ground. Once ground has ended, what still comes down is dropped; once the spacecraft
+// has, what goes up fails. What goes up waits for the spacecraft, for so long at most, so that
+// repeats don't pile up if its disk is slow; what comes down never waits, so that nobody waits for
+// ever.
 fn new_pipes<T: Wait + Copy + Drop>(
     alloc: Global,
     waits: &T,
     limit: Duration,
-) -> Result<Pipes<T>, AllocError> {
-    Ok(Pipes {
-        ground_up: short_pipe(alloc, waits, Some(limit))?,
-        craft_up: short_pipe(alloc, waits, None)?,
-        craft_down: pipe(alloc, waits, Unread::Dropped)?,
-        ground_down: pipe(alloc, waits, Unread::Dropped)?,
-    })
+) -> Result<[Ends<T>; 4], AllocError> {
+    Ok([
+        short_pipe(alloc, waits, Some(limit))?,
+        short_pipe(alloc, waits, None)?,
+        pipe(alloc, waits, Unread::Dropped)?,
+        pipe(alloc, waits, Unread::Dropped)?,
+    ])
 }
 
-// Carries out what is ready, with a thread for each link and for the spacecraft.
+// Carries out what is ready with this spacecraft, from the job's file on, if there is one: with a
+// thread for each link and for the spacecraft.
 fn fly<R, T>(
     rt: &R,
     threads: &T,
+    voice: Voice,
     words: &PassWords<'_>,
     begun: Begun,
-    errand: Errand,
-    notes: GroundNotes<R>,
+    ready: Ready,
 ) -> Result<Status, Failure>
 where
-    R: EndMachine + Sync,
+    R: PlainMachine + Sync,
     T: Threads + Wait + Clock + Copy + Drop + Send + Sync + 'static,
 {
-    let Ok(pipes) = new_pipes(rt.alloc(), threads, limit_of(&words.ground)) else {
-        return Err(Failure::from(Fault::Memory));
-    };
-    let Pipes {
-        ground_up,
-        craft_up,
-        craft_down,
-        ground_down,
-    } = pipes;
+    if let (Some(path), Some(lost)) = (words.ground.kept, lost_of(&ready.errand, &begun)) {
+        return Err(memory_lost(rt, path, &lost));
+    }
+    let [ground_up, craft_up, craft_down, ground_down] = new_pipes(
+        rt.alloc(),
+        threads,
+        limit_of(&words.ground),
+    )?;
     let (up, from_ground) = ground_up;
     let (to_craft, at_craft) = craft_up;
     let (from_craft, at_link) = craft_down;
@@ -247,7 +192,8 @@ where
                 let place = format!(in rt.alloc(); "no thread could be started");
                 return Err(Failure::at(Fault::Read, place));
             };
-            let ended = carry_between(rt, threads, words, errand, notes, (up, down));
+            let wires = (down, up, "the link up");
+            let ended = carry_over(rt, threads, voice, &words.ground, ready, wires);
             all_ended(threads, ended, craft, [link_up, link_down])
         },
     )
@@ -280,34 +226,6 @@ fn carry_link<T: Wait + Clock + Drop>(
     drop(out);
     carried?;
     Ok(())
-}
-
-// Ground's end over these pipes. The one up is closed before what still comes is heard.
-fn carry_between<R: PlainMachine, T: Threads + Wait + Clock + Copy + Drop + Send + 'static>(
-    rt: &R,
-    threads: &T,
-    words: &PassWords<'_>,
-    errand: Errand,
-    notes: GroundNotes<R>,
-    (up, down): (PipeWriter<T>, PipeReader<T>),
-) -> Result<Status, Failure> {
-    let mut errand = errand;
-    let words = &words.ground;
-    let terms = errand.first.terms();
-    let mut ears = hear_source(
-        rt,
-        threads,
-        FromStd::new(down),
-        errand.cutting,
-        words.wait,
-        terms,
-        notes,
-    )?;
-    let out = FromStd::new(Watched::new(up));
-    let ended = put_over(rt, &mut ears, words, &mut errand, out, "the link up");
-    drop(ears);
-    drop(errand);
-    ended
 }
 
 // How it ended, once all threads have. What the spacecraft fails for comes first: then nobody reads

@@ -6,7 +6,7 @@ use crate::places::{ErrandKind, Places};
 use lpt_command_line::GroundWords;
 use lpt_ground::dumped_octets;
 use lpt_ground_run::Asked;
-use lpt_io::{Failure, Fault, LastingFiles, Status, first_failure};
+use lpt_io::{Failure, LastingFiles, Status, first_failure};
 
 /// Writes the files of what was dumped, also if another couldn't be written.
 ///
@@ -37,40 +37,15 @@ fn write_dump(
     path: &str,
     asked: &[Asked],
 ) -> Result<(), Failure> {
-    match dumped_octets(rt.alloc(), asked) {
-        Ok(octets) => rt.write_for_good(path, &octets),
-        Err(_) => Err(Failure::from(Fault::Memory)),
-    }
+    let octets = dumped_octets(rt.alloc(), asked)?;
+    rt.write_for_good(path, &octets)
 }
 
-/// Compares what the first pass checked with the content, and answers whether they are the same.
-pub fn compare_checked(
-    rt: &(impl Eprint + AllocGlobal),
-    teller: Teller,
-    errand: &Errand,
-) -> Result<bool, Failure> {
-    let asked = errand.first.requests_asked();
-    compare_all(rt, teller, errand, &errand.places, asked)
-}
-
-/// Compares what was read behind loads with what was loaded, and answers whether they are the same.
+/// Compares what these requests, which are of these octets, got with the content, and answers
+/// whether they are the same.
 ///
 /// Errors: `Memory`.
-pub fn compare_read(
-    rt: &(impl Eprint + AllocGlobal),
-    teller: Teller,
-    errand: &Errand,
-) -> Result<bool, Failure> {
-    match &errand.second {
-        None => Ok(true),
-        Some((places, second)) => {
-            compare_all(rt, teller, errand, places, second.requests_asked())
-        }
-    }
-}
-
-// Compares what these requests, which are of these octets, got with the content.
-fn compare_all(
+pub fn compare_all(
     rt: &(impl Eprint + AllocGlobal),
     teller: Teller,
     errand: &Errand,
@@ -99,8 +74,6 @@ fn compare(
     if matches!(places.kind, ErrandKind::Check) {
         return Ok(teller.compare_checks(rt, places, asked, content));
     }
-    match dumped_octets(rt.alloc(), asked) {
-        Ok(octets) => Ok(teller.compare_octets(rt, places, content, &octets)),
-        Err(_) => Err(Failure::from(Fault::Memory)),
-    }
+    let octets = dumped_octets(rt.alloc(), asked)?;
+    Ok(teller.compare_octets(rt, places, content, &octets))
 }

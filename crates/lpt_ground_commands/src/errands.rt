@@ -118,7 +118,7 @@ pub fn errand_of(
     let looked_at = places_read(alloc, words, part, &places, &pieces, words.kept.is_some())?;
     let (areas, files) = contents_of(alloc, pieces)?;
     let asked = all_asked(alloc, &heads, &places, &areas)?;
-    let own = heads_under(&heads, sources.own);
+    let own = heads_at(&heads, sources.own, 0);
     let second = reading(alloc, &own, words, verified, asked.len())?;
     let again = reading(alloc, &own, words, looked_at, asked.len())?;
     let anew = asked_anew(alloc, &own, words, sources, &places)?;
@@ -140,16 +140,6 @@ pub fn errand_of(
         job: words.job,
         areas,
     })
-}
-
-// The same heads under this source.
-fn heads_under(heads: &Heads, source: u16) -> Heads {
-    Heads {
-        apid: heads.apid,
-        source,
-        count: heads.count,
-        flags: heads.flags,
-    }
 }
 
 // The pass of these octets under these heads, if a job of dumps or of checks goes on.
@@ -196,8 +186,17 @@ fn all_asked(
     }
     let mut asked = Vec::new(alloc);
     for one in places {
-        let heads = heads_at(heads, asked.len());
-        let planned = asked_of(alloc, &heads, one, areas)?;
+        let heads = heads_at(heads, heads.source, asked.len());
+        let (memory, range, each) = (one.memory, one.range(), one.each.max(1));
+        let planned = match one.kind {
+            ErrandKind::Load => {
+                let areas = areas.get(one.area..).unwrap_or(&[]);
+                let (areas, _) = areas.split_at(areas.len().min(1));
+                plan_loads(alloc, &heads, memory, areas, each)?
+            }
+            ErrandKind::Dump => plan_reads(alloc, &heads, Read::Dump, memory, &[range], each)?,
+            ErrandKind::Check => plan_reads(alloc, &heads, Read::Check, memory, &[range], each)?,
+        };
         for request in planned {
             if asked.push(request).is_err() {
                 return Err(PlanFault::Memory);
@@ -207,35 +206,14 @@ fn all_asked(
     Ok(asked)
 }
 
-// The heads of requests behind so many of these, with the same flags.
-fn heads_at(heads: &Heads, many: usize) -> Heads {
+// The heads of requests behind so many of these, under this source, with the same flags.
+fn heads_at(heads: &Heads, source: u16, many: usize) -> Heads {
     let Heads { count, .. } = heads.behind(many as u64);
     Heads {
         apid: heads.apid,
-        source: heads.source,
+        source,
         count,
         flags: heads.flags,
-    }
-}
-
-// The requests that are of these octets, of areas with these contents.
-fn asked_of(
-    alloc: Global,
-    heads: &Heads,
-    places: &Places,
-    areas: &[Area],
-) -> Result<Vec<Asked>, PlanFault> {
-    let range = places.range();
-    let each = places.each.max(1);
-    let memory = places.memory;
-    match places.kind {
-        ErrandKind::Load => {
-            let areas = areas.get(places.area..).unwrap_or(&[]);
-            let (areas, _) = areas.split_at(areas.len().min(1));
-            plan_loads(alloc, heads, memory, areas, each)
-        }
-        ErrandKind::Dump => plan_reads(alloc, heads, Read::Dump, memory, &[range], each),
-        ErrandKind::Check => plan_reads(alloc, heads, Read::Check, memory, &[range], each),
     }
 }
 
@@ -257,42 +235,32 @@ fn all_places(
 ) -> Result<Vec<Places>, PlanFault> {
     let mut places = Vec::new(alloc);
     for (area, piece) in pieces.iter().enumerate() {
-        let one = places_of(words, area, piece, part)?;
+        let Ok(of_content) = u32::try_from(piece.octets.as_slice().len()) else {
+            return Err(PlanFault::PastEnd);
+        };
+        let loaded = match words.large {
+            Some(_) if of_content > u32::from(LONGEST_LOAD) => return Err(PlanFault::TooLong),
+            Some(_) => LONGEST_LOAD,
+            None => part,
+        };
+        let (kind, each, len) = match words.job {
+            Job::Load { .. } => (ErrandKind::Load, loaded, of_content),
+            Job::Dump => (ErrandKind::Dump, dump_each(part)?, piece.len),
+            Job::Check => (ErrandKind::Check, check_each(part)?, of_content),
+        };
+        let one = Places {
+            area,
+            kind,
+            memory: piece.memory,
+            address: piece.address,
+            len,
+            each,
+        };
         if places.push(one).is_err() {
             return Err(PlanFault::Memory);
         }
     }
     Ok(places)
-}
-
-// The octets of the area of this number, for parts of so many octets.
-fn places_of(
-    words: &GroundWords<'_>,
-    area: usize,
-    piece: &Piece,
-    part: u16,
-) -> Result<Places, PlanFault> {
-    let Ok(of_content) = u32::try_from(piece.octets.as_slice().len()) else {
-        return Err(PlanFault::PastEnd);
-    };
-    let loaded = match words.large {
-        Some(_) if of_content > u32::from(LONGEST_LOAD) => return Err(PlanFault::TooLong),
-        Some(_) => LONGEST_LOAD,
-        None => part,
-    };
-    let (kind, each, len) = match words.job {
-        Job::Load { .. } => (ErrandKind::Load, loaded, of_content),
-        Job::Dump => (ErrandKind::Dump, dump_each(part)?, piece.len),
-        Job::Check => (ErrandKind::Check, check_each(part)?, of_content),
-    };
-    Ok(Places {
-        area,
-        kind,
-        memory: piece.memory,
-        address: piece.address,
-        len,
-        each,
-    })
 }
 
 // The octets that are read once they are loaded: those that are verified are dumped; of a job that

@@ -82,7 +82,8 @@ fn count_of(packet: &[u8]) -> u16 {
 /// What is written to, with what is put there.
 #[derive(Drop)]
 pub struct Noted<K: Sink + Drop> {
-    out: K,
+    /// What is written to.
+    pub out: K,
     /// What is put.
     pub puts: Puts,
 }
@@ -94,17 +95,6 @@ impl<K: Sink + Drop> Noted<K> {
             out,
             puts: Puts::new(alloc, on),
         }
-    }
-
-    /// What is written to.
-    pub fn out(&self) -> &K {
-        &self.out
-    }
-
-    /// The same, once nothing is put any more.
-    pub fn into_out(self) -> K {
-        let Noted { out, puts: _ } = self;
-        out
     }
 }
 

@@ -34,9 +34,7 @@ fn next_source(rt: &impl EndMachine, path: &str) -> Result<Option<u16>, Failure>
         );
         return Ok(None);
     };
-    let Ok(text) = format!(in rt.alloc(); "{next}\n") else {
-        return Err(Failure::from(Fault::Memory));
-    };
+    let text = format!(in rt.alloc(); "{next}\n")?;
     rt.write_for_good(path, text.as_bytes())?;
     Ok(Some(next))
 }

@@ -1,14 +1,11 @@
 //! What standard error is told of a pass: of its rounds, and at its end.
 
-use crate::ground_lines::{
-    Became, Stretch, became_line, done_line, earlier_line, round_line, stray_line, strays_line,
-    unkept_line, unread_line, within_line,
-};
+use crate::ground_lines::{Became, Stretch, became_line, done_line};
 use crate::places::{ErrandKind, Places};
 use lpt_command_line::{GroundWords, Job, SourceWords};
 use lpt_ground::{Pass, checks_agree};
-use lpt_ground_run::{Asked, GroundRun, Halt, Outcome, RunCounts, runs_of};
-use lpt_io::{Voice, tell_text};
+use lpt_ground_run::{Asked, Halt, Outcome, RunCounts, runs_of};
+use lpt_io::{Voice, tell_place, tell_text};
 use std::alloc::{AllocError, Global};
 
 /// Who tells on standard error what becomes of a pass.
@@ -36,7 +33,10 @@ impl Teller {
         if !self.json {
             self.voice.tell_round(rt, settled, of, round);
         } else if self.voice.tells() && settled < of {
-            tell_line(rt, round_line(rt.alloc(), settled, of, round));
+            let text = format!(in rt.alloc();
+                "{{\"round\":{round},\"settled\":{settled},\"requests\":{of}}}"
+            );
+            self.tell_as_line(rt, text);
         }
     }
 
@@ -60,45 +60,85 @@ impl Teller {
         stretch: Stretch,
         file: Option<&str>,
     ) {
-        self.tell_as_line(
-            rt,
-            became_line(rt.alloc(), self.json, became, stretch, file),
-        );
+        let line = became_line(rt.alloc(), self.json, became, stretch, file);
+        self.tell_as_line(rt, line);
     }
 
-    /// Tells where what comes down has ended, unless it is at its own end.
-    pub fn tell_halt(self, rt: &(impl Eprint + AllocGlobal), halt: Option<Halt>) {
-        let line = match halt {
-            Some(Halt::Stray(place)) => stray_line(rt.alloc(), self.json, place),
-            Some(Halt::Within(place, len)) => within_line(rt.alloc(), self.json, place, len),
-            Some(Halt::End | Halt::Closed) | None => return,
-        };
+    // Takes away what was told of how far the pass is, if a line for a reader follows.
+    fn clear(self, rt: &impl Eprint) {
         if !self.json {
             self.voice.clear(rt);
         }
+    }
+
+    /// Tells where what comes down has ended, unless it is at its own end: at which octet no packet
+    /// begins, or inside which packet, and of how many octets if its header has come whole.
+    pub fn tell_halt(self, rt: &(impl Eprint + AllocGlobal), halt: Option<Halt>) {
+        let alloc = rt.alloc();
+        let line = match (halt, self.json) {
+            (Some(Halt::Stray(place)), true) => {
+                format!(in alloc; "{{\"state\":\"no packet\",\"octet\":{place}}}")
+            }
+            (Some(Halt::Stray(place)), false) => {
+                format!(in alloc; "octet {place}: no packet begins there")
+            }
+            (Some(Halt::Within(place, Some(len))), true) => {
+                format!(in alloc; "{{\"state\":\"cut\",\"octet\":{place},\"octets\":{len}}}")
+            }
+            (Some(Halt::Within(place, Some(len))), false) => {
+                format!(in alloc; "inside a packet of {len} octets since octet {place}")
+            }
+            (Some(Halt::Within(place, None)), true) => {
+                format!(in alloc; "{{\"state\":\"cut\",\"octet\":{place}}}")
+            }
+            (Some(Halt::Within(place, None)), false) => {
+                format!(in alloc; "inside a packet's header since octet {place}")
+            }
+            (Some(Halt::End | Halt::Closed) | None, _) => return,
+        };
+        self.clear(rt);
         self.tell_as_line(rt, line);
     }
 
     /// Tells that a pass is given up, since for so many milliseconds nothing was read of what goes
     /// up.
     pub fn tell_unread(self, rt: &(impl Eprint + AllocGlobal), millis: u128) {
-        if !self.json {
-            self.voice.clear(rt);
-        }
-        self.tell_as_line(rt, unread_line(rt.alloc(), self.json, millis));
+        self.clear(rt);
+        let line = if self.json {
+            format!(in rt.alloc(); "{{\"state\":\"not read\",\"milliseconds\":{millis}}}")
+        } else {
+            format!(in rt.alloc(); "given up: nothing that goes up was read for {millis} ms")
+        };
+        self.tell_as_line(rt, line);
     }
 
     /// Tells how many octets were passed over, if some were.
     pub fn tell_strays(self, rt: &(impl Eprint + AllocGlobal), strays: u64) {
-        if strays != 0 && self.voice.tells() {
-            self.tell_as_line(rt, strays_line(rt.alloc(), self.json, strays));
+        if strays == 0 || !self.voice.tells() {
+            return;
         }
+        let octets = if strays == 1 {
+            "octet that is"
+        } else {
+            "octets that are"
+        };
+        let line = if self.json {
+            format!(in rt.alloc(); "{{\"state\":\"passed over\",\"octets\":{strays}}}")
+        } else {
+            format!(in rt.alloc(); "passed over: {strays} {octets} no packet")
+        };
+        self.tell_as_line(rt, line);
     }
 
     /// Tells that the memories are gone with what was loaded into them.
-    pub fn tell_unkept(self, rt: &(impl Eprint + AllocGlobal)) {
-        if self.voice.tells() {
-            self.tell_as_line(rt, unkept_line(rt.alloc(), self.json));
+    pub fn tell_unkept(self, rt: &impl Eprint) {
+        if !self.voice.tells() {
+            return;
+        }
+        if self.json {
+            let _ = rt.eprintln("{\"state\":\"not kept\"}");
+        } else {
+            tell_place(rt, "what was loaded isn't kept: --save or --state keeps it");
         }
     }
 
@@ -113,11 +153,11 @@ impl Teller {
     }
 
     // Tells this in a line of JSON or for a reader.
-    fn tell_as_line(self, rt: &(impl Eprint + AllocGlobal), text: Result<String, AllocError>) {
-        if self.json {
-            tell_line(rt, text);
-        } else {
+    fn tell_as_line(self, rt: &impl Eprint, text: Result<String, AllocError>) {
+        if !self.json {
             tell_text(rt, text);
+        } else if let Ok(text) = text {
+            let _ = rt.eprintln(text.as_str());
         }
     }
 
@@ -131,9 +171,7 @@ impl Teller {
         (pass, earlier): (&Pass, usize),
         counts: RunCounts,
     ) {
-        if !self.json {
-            self.voice.clear(rt);
-        }
+        self.clear(rt);
         let mut rest = pass.requests_asked();
         let mut open = false;
         for one in places {
@@ -144,15 +182,19 @@ impl Teller {
         if open && !self.json {
             return tell_text(rt, next_text(rt.alloc(), words));
         }
+        let many = pass.requests_asked().len();
         if self.voice.tells() || open {
             let noun = noun_of(places);
-            let many = pass.requests_asked().len();
             let text = done_line(rt.alloc(), self.json, noun, (many, earlier), counts, !open);
             self.tell_as_line(rt, text);
         }
         if earlier != 0 && self.voice.tells() && !self.json && matches!(words.job, Job::Dump) {
-            let many = pass.requests_asked().len();
-            tell_text(rt, earlier_line(rt.alloc(), earlier, many));
+            let answers = if many == 1 { "answer" } else { "answers" };
+            let are = if earlier == 1 { "is" } else { "are" };
+            let text = format!(in rt.alloc();
+                "{earlier} of {many} {answers} {are} of an earlier run"
+            );
+            tell_text(rt, text);
         }
     }
 
@@ -170,7 +212,12 @@ impl Teller {
         let mut open = false;
         let mut from = 0;
         for run in &runs {
-            if let Some(became) = open_as(run) {
+            let became = match run.outcome {
+                Outcome::Done => None,
+                Outcome::Failed(notice) => Some(Became::Failed(notice)),
+                _ => Some(Became::Open),
+            };
+            if let Some(became) = became {
                 open = true;
                 self.tell_became(rt, became, stretch_of(places, from, run.count), file);
             }
@@ -233,22 +280,6 @@ fn file_of(files: &[Option<String>], area: usize) -> Option<&str> {
     }
 }
 
-// Prints a line as it is, unless there was no memory for it.
-fn tell_line(rt: &impl Eprint, text: Result<String, AllocError>) {
-    if let Ok(text) = text {
-        let _ = rt.eprintln(text.as_str());
-    }
-}
-
-// What became of requests, if they weren't completed.
-fn open_as(run: &GroundRun) -> Option<Became> {
-    match run.outcome {
-        Outcome::Done => None,
-        Outcome::Failed(notice) => Some(Became::Failed(notice)),
-        _ => Some(Became::Open),
-    }
-}
-
 // The octets that so many requests are of, behind so many.
 fn stretch_of(places: &Places, from: u64, count: u64) -> Stretch {
     let each = u64::from(places.each);
@@ -277,14 +308,6 @@ pub fn title_of(
     source: u16,
     places: &[Places],
 ) -> Result<String, AllocError> {
-    let mut title = areas_title(alloc, places)?;
-    let count = words.count;
-    title.write(format_args!(" source {source} count {count}"))?;
-    Ok(title)
-}
-
-// What requests are of, in words. The only error is out of memory.
-fn areas_title(alloc: Global, places: &[Places]) -> Result<String, AllocError> {
     let noun = noun_of(places);
     let mut title = format!(in alloc; "{noun}")?;
     let mut last = None;
@@ -296,6 +319,8 @@ fn areas_title(alloc: Global, places: &[Places]) -> Result<String, AllocError> {
         last = Some(memory);
         title.write(format_args!(" address {address} octets {len}"))?;
     }
+    let count = words.count;
+    title.write(format_args!(" source {source} count {count}"))?;
     Ok(title)
 }
 

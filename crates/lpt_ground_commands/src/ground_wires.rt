@@ -3,7 +3,7 @@
 use crate::ground_notes::GroundNotes;
 use lpt_command_line::GroundWords;
 use lpt_ground_run::{Cutting, HearFault, Hearing, Terms, TimedWriter};
-use lpt_io::{EndMachine, Failure, Fault, PlainMachine, Watched};
+use lpt_io::{EndMachine, Failure, Fault, PlainMachine, Watched, failure_at};
 use lpt_text::{FromStd, Source, StreamFault, flush_out};
 use std::io::{ErrorKind, Write};
 use std::sync::Wait;
@@ -58,10 +58,17 @@ where
 {
     match Hearing::begin(threads, rt.alloc(), source, cutting, wait, terms, notes) {
         Ok(ears) => Ok(ears),
-        Err(HearFault::Memory) => Err(Failure::from(Fault::Memory)),
-        Err(HearFault::NoThread) => {
+        Err(fault) => Err(unbegun(rt, Fault::Read, fault)),
+    }
+}
+
+// Why nothing is heard or written.
+fn unbegun(rt: &impl AllocGlobal, without: Fault, fault: HearFault) -> Failure {
+    match fault {
+        HearFault::Memory => Failure::from(Fault::Memory),
+        HearFault::NoThread => {
             let place = format!(in rt.alloc(); "no thread could be started");
-            Err(Failure::at(Fault::Read, place))
+            Failure::at(without, place)
         }
     }
 }
@@ -77,18 +84,11 @@ pub fn uplink_wire<R: EndMachine, T: Threads + Wait + Clock + Copy + Drop + Send
     let name = words.up.unwrap_or(OUTPUT);
     let to = match rt.uplink(words.up) {
         Ok(to) => to,
-        Err(error) => {
-            let place = format!(in rt.alloc(); "{name}: {error}");
-            return Err(Failure::at(Fault::Write, place));
-        }
+        Err(error) => return Err(failure_at(rt, Fault::Write, name, &error)),
     };
     match TimedWriter::begin(threads, rt.alloc(), to, limit_of(words)) {
         Ok(writer) => Ok(FromStd::new(Watched::new(writer))),
-        Err(HearFault::Memory) => Err(Failure::from(Fault::Memory)),
-        Err(HearFault::NoThread) => {
-            let place = format!(in rt.alloc(); "no thread could be started");
-            Err(Failure::at(Fault::Write, place))
-        }
+        Err(fault) => Err(unbegun(rt, Fault::Write, fault)),
     }
 }
 
@@ -121,18 +121,15 @@ pub fn close<W: Write + Drop>(
         return Ok(());
     }
     let flushed = flush_out(&mut out);
-    let failure = match out.inner().error() {
-        Some(error) => {
-            let place = format!(in rt.alloc(); "{name}: {error}");
-            Some(Failure::at(Fault::Write, place))
-        }
-        None => None,
+    let failure = match (out.inner().error(), flushed) {
+        (Some(error), _) => Some(failure_at(rt, Fault::Write, name, error)),
+        (None, Ok(())) => None,
+        (None, Err(StreamFault::Memory)) => Some(Failure::from(Fault::Memory)),
+        (None, Err(_)) => Some(Failure::from(Fault::Write)),
     };
     drop(out);
-    match (failure, flushed) {
-        (Some(failure), _) => Err(failure),
-        (None, Ok(())) => Ok(()),
-        (None, Err(StreamFault::Memory)) => Err(Failure::from(Fault::Memory)),
-        (None, Err(_)) => Err(Failure::from(Fault::Write)),
+    match failure {
+        Some(failure) => Err(failure),
+        None => Ok(()),
     }
 }

@@ -3,13 +3,15 @@
 
 ghost use Rattle.lpt_events.specs.Configs.{IsConfig};
 
-use crate::comparing::{compare_checked, compare_read, write_dumps};
+use crate::comparing::{compare_all, write_dumps};
 use crate::errands::{Errand, errand_of, overlap_of};
 use crate::ground_notes::GroundNotes;
 use crate::ground_puts::{Noted, Puts};
 use crate::ground_sources::source_of;
 use crate::ground_told::Teller;
-use crate::ground_wires::{Ears, OUTPUT, Wire, close, hear, is_late, limit_of, uplink_wire};
+use crate::ground_wires::{
+    Ears, OUTPUT, Wire, close, hear, hear_source, is_late, limit_of, uplink_wire,
+};
 use crate::job_files::{JobFront, job_begun, kept_job, sources_of};
 use crate::outputs::{check_places, files_used};
 use crate::pieces::{Piece, pieces_of};
@@ -20,11 +22,11 @@ use lpt_events::Config;
 use lpt_ground::{End, Pass};
 use lpt_ground_run::{Fate, Halt, PlanFault, carry_pass, carry_uplink};
 use lpt_io::{
-    EndMachine, Failure, Fault, PlainMachine, Status, Voice, config_of, first_failure, lock_file,
-    tell_text, used_twice, word_refused,
+    EndMachine, Failure, Fault, PlainMachine, Status, Voice, Watched, config_of, lock_file,
+    status_of, tell_text, used_twice, word_refused,
 };
-use lpt_text::StreamFault;
-use std::io::Write;
+use lpt_text::{FromStd, StreamFault};
+use std::io::{Read, Write};
 use std::sync::Wait;
 use std::thread::Threads;
 use std::time::Clock;
@@ -52,27 +54,12 @@ pub fn ground<'w, R: EndMachine, T: Threads + Wait + Clock + Copy + Drop + Send 
         return Ok(Status::Unreadable);
     };
     let lock = job_lock(rt, process, words)?;
-    let ended = carry_locked(rt, threads, process, voice, &config, words, pieces);
+    let Some(ready) = ready_of(rt, process, &config, words, pieces)? else {
+        return Ok(Status::Refused);
+    };
+    let ended = carry_ready(rt, threads, voice, words, ready);
     drop(lock);
     ended
-}
-
-// Carries these areas, if no other process uses the job's file.
-fn carry_locked<R: EndMachine, T: Threads + Wait + Clock + Copy + Drop + Send + 'static>(
-    rt: &R,
-    threads: &T,
-    process: u32,
-    voice: Voice,
-    config: &Config,
-    words: &GroundWords<'_>,
-    pieces: Vec<Piece>,
-) -> Result<Status, Failure>
-    requires { IsConfig config.now }
-{
-    match ready_of(rt, process, config, words, pieces)? {
-        Some(ready) => carry_ready(rt, threads, voice, words, ready),
-        None => Ok(Status::Refused),
-    }
 }
 
 /// The lock of the job's file, if there is one.
@@ -125,7 +112,9 @@ pub fn ready_of(
         }
     };
     if let (Job::Load { .. }, Some((one, other))) = (words.job, overlap_of(&errand.places)) {
-        tell_overlap(rt, &one, &other);
+        let (one, other) = (one.address, other.address);
+        let text = format!(in rt.alloc(); "the areas at {one} and at {other} overlap");
+        tell_text(rt, text);
         return Ok(None);
     }
     let job = job_begun(rt, words, sources, job, &mut errand)?;
@@ -152,13 +141,6 @@ fn tell_fault(rt: &(impl Eprint + AllocGlobal), words: &GroundWords<'_>, fault: 
     tell_text(rt, text);
 }
 
-// That two areas share octets, so that it isn't known which of both a memory has then.
-fn tell_overlap(rt: &(impl Eprint + AllocGlobal), one: &Places, other: &Places) {
-    let (one, other) = (one.address, other.address);
-    let text = format!(in rt.alloc(); "the areas at {one} and at {other} overlap");
-    tell_text(rt, text);
-}
-
 // Carries out what is ready, and keeps what is completed, if that is asked for.
 fn carry_ready<R: EndMachine, T: Threads + Wait + Clock + Copy + Drop + Send + 'static>(
     rt: &R,
@@ -171,29 +153,57 @@ fn carry_ready<R: EndMachine, T: Threads + Wait + Clock + Copy + Drop + Send + '
     let notes = GroundNotes::begin(rt, Teller::new(voice, words.json), job);
     let terms = errand.first.terms();
     let mut ears = hear(rt, threads, errand.cutting, words.wait, terms, notes)?;
-    let ended = put_up(rt, threads, &mut ears, words, &mut errand);
+    let out = uplink_wire(rt, threads, words)?;
+    let name = words.up.unwrap_or(OUTPUT);
+    let ended = put_over(rt, &mut ears, words, &mut errand, out, name);
     drop(ears);
     drop(errand);
     ended
 }
 
-// Carries an errand out over the FIFO of these words, or standard output.
-fn put_up<R: EndMachine, T: Threads + Wait + Clock + Copy + Drop + Send + 'static>(
+/// Carries out what is ready: hears what the first of these reads, and writes to the second, which
+/// has this name and is closed before what still comes is heard.
+///
+/// Errors: as of `ground`.
+pub fn carry_over<R, T, I, W>(
     rt: &R,
     threads: &T,
-    ears: &mut Ears<R, T>,
+    voice: Voice,
     words: &GroundWords<'_>,
-    errand: &mut Errand,
-) -> Result<Status, Failure> {
-    let out = uplink_wire(rt, threads, words)?;
-    put_over(rt, ears, words, errand, out, words.up.unwrap_or(OUTPUT))
+    ready: Ready,
+    (from, to, name): (I, W, &str),
+) -> Result<Status, Failure>
+where
+    R: PlainMachine,
+    T: Threads + Wait + Clock + Copy + Drop + Send + 'static,
+    I: Read + Drop + Send + 'static,
+    W: Write + Drop,
+{
+    let Ready { mut errand, job } = ready;
+    let notes = GroundNotes::begin(rt, Teller::new(voice, words.json), job);
+    let terms = errand.first.terms();
+    let source = FromStd::new(from);
+    let mut ears = hear_source(
+        rt,
+        threads,
+        source,
+        errand.cutting,
+        words.wait,
+        terms,
+        notes,
+    )?;
+    let out = FromStd::new(Watched::new(to));
+    let ended = put_over(rt, &mut ears, words, &mut errand, out, name);
+    drop(ears);
+    drop(errand);
+    ended
 }
 
-/// Carries an errand out over what has this name, which is closed if it can be, before what comes
-/// is heard on.
-///
-/// If nothing of it is read for too long, the errand is given up. Errors: as of `ground`.
-pub fn put_over<R: PlainMachine, T: Wait + Clock + Drop, W: Write + Drop>(
+// Carries an errand out over what has this name, which is closed if it can be, before what comes
+// is heard on.
+//
+// If nothing of it is read for too long, the errand is given up. Errors: as of `ground`.
+fn put_over<R: PlainMachine, T: Wait + Clock + Drop, W: Write + Drop>(
     rt: &R,
     ears: &mut Ears<R, T>,
     words: &GroundWords<'_>,
@@ -201,29 +211,19 @@ pub fn put_over<R: PlainMachine, T: Wait + Clock + Drop, W: Write + Drop>(
     out: Wire<W>,
     name: &str,
 ) -> Result<Status, Failure> {
-    let tells_rounds = ears.notes().teller().tells_rounds();
-    if tells_rounds {
-        ears.notes().note_rounds();
-    }
-    let mut out = Noted::new(rt.alloc(), out, tells_rounds);
+    let teller = ears.notes().teller;
+    let mut out = Noted::new(rt.alloc(), out, teller.tells_rounds());
     let ended = carry_all(rt, ears, words, errand, &mut out);
-    let closed = close(rt, out.into_out(), name);
+    let Noted { out, puts: _ } = out;
+    let closed = close(rt, out, name);
     ears.hear_out();
     let strays = ears.strays();
-    ears.notes().teller().tell_strays(rt, strays);
-    both(closed, ended)
-}
-
-// How it ends when something came to this behind what came to that end.
-fn both(closed: Result<(), Failure>, ended: Result<Status, Failure>) -> Result<Status, Failure> {
-    match ended {
-        Ok(status) => {
-            closed?;
-            Ok(status)
-        }
+    teller.tell_strays(rt, strays);
+    match closed {
+        Ok(()) => ended,
         Err(failure) => {
-            first_failure(closed, Some(failure))?;
-            Ok(Status::Failed)
+            drop(ended);
+            Err(failure)
         }
     }
 }
@@ -236,7 +236,7 @@ fn carry_all<R: PlainMachine, T: Wait + Clock + Drop, W: Write + Drop>(
     errand: &mut Errand,
     out: &mut Noted<Wire<W>>,
 ) -> Result<Status, Failure> {
-    let goes_on = ears.notes().goes_on();
+    let goes_on = ears.notes().goes_on;
     errand.look_again(goes_on);
     out.puts.begin(errand.first.requests_asked());
     let ended = match &mut errand.uplink {
@@ -244,7 +244,7 @@ fn carry_all<R: PlainMachine, T: Wait + Clock + Drop, W: Write + Drop>(
         None => carry_pass(&mut errand.first, ears, out),
     };
     let of_first = (&errand.first, errand.earlier);
-    let late = is_late(out.out());
+    let late = is_late(&out.out);
     tell(
         rt,
         ears,
@@ -261,15 +261,11 @@ fn carry_all<R: PlainMachine, T: Wait + Clock + Drop, W: Write + Drop>(
         Job::Load { .. } => verify_load(rt, ears, words, errand, out),
         Job::Dump => write_dumps(rt, words, errand),
         Job::Check => {
-            let alike = compare_checked(rt, ears.notes().teller(), errand)?;
-            Ok(status_of(alike))
+            let (teller, asked) = (ears.notes().teller, errand.first.requests_asked());
+            let alike = compare_all(rt, teller, errand, &errand.places, asked)?;
+            Ok(status_of(!alike))
         }
     }
-}
-
-// The status, by whether the octets are as they should be.
-fn status_of(alike: bool) -> Status {
-    if alike { Status::Done } else { Status::Refused }
 }
 
 // Reads what was loaded, if that is asked for or the job goes on, and compares it.
@@ -280,25 +276,25 @@ fn verify_load<R: PlainMachine, T: Wait + Clock + Drop, W: Write + Drop>(
     errand: &mut Errand,
     out: &mut Noted<Wire<W>>,
 ) -> Result<Status, Failure> {
-    let Some((places, second)) = &mut errand.second else {
+    let Some((places, mut second)) = errand.second.take() else {
         return Ok(Status::Done);
     };
-    ears.notes().keep_no_more();
+    ears.notes().job = None;
     out.puts.begin(second.requests_asked());
     ears.hear_under(second.terms());
-    let ended = carry_pass(second, ears, out);
+    let ended = carry_pass(&mut second, ears, out);
     let of = (places.as_slice(), errand.files.as_slice());
-    let late = is_late(out.out());
-    tell(rt, ears, words, of, (&*second, 0), late, &mut out.puts);
+    let late = is_late(&out.out);
+    tell(rt, ears, words, of, (&second, 0), late, &mut out.puts);
     if !is_done(rt, ears, ended, late)? {
         return Ok(Status::Refused);
     }
-    let teller = ears.notes().teller();
-    let alike = compare_read(rt, teller, errand)?;
+    let teller = ears.notes().teller;
+    let alike = compare_all(rt, teller, errand, &places, second.requests_asked())?;
     if let (false, Some(path)) = (alike, words.kept) {
         teller.tell_unlike_job(rt, path);
     }
-    Ok(status_of(alike))
+    Ok(status_of(!alike))
 }
 
 // Tells what became of the requests of a pass, by their octets and the files of these. An earlier
@@ -314,8 +310,8 @@ fn tell<R: PlainMachine, T: Wait + Clock + Drop>(
 ) {
     let counts = ears.counts();
     let halt = stand_of(ears, pass);
-    let teller = ears.notes().teller();
-    if let Some(rounds) = ears.notes().rounds() {
+    let teller = ears.notes().teller;
+    if let Some(rounds) = &mut ears.notes().rounds {
         teller.tell_rounds(rt, rounds.take_lines(puts));
     }
     teller.tell_halt(rt, halt);
@@ -348,21 +344,14 @@ fn is_done<R: PlainMachine, T: Wait + Clock + Drop>(
 ) -> Result<bool, Failure> {
     match ended {
         Ok(end) => Ok(end == End::Done),
-        Err(fault) => match ears.notes().take_failure() {
-            Some(failure) => Err(failure),
-            None if late => Ok(false),
-            None => Err(failure_of(rt, fault)),
+        Err(fault) => match (ears.notes().failure.take(), fault) {
+            (Some(failure), _) => Err(failure),
+            (None, _) if late => Ok(false),
+            (None, StreamFault::Read) => {
+                let place = format!(in rt.alloc(); "standard input: a read failed");
+                Err(Failure::at(Fault::Read, place))
+            }
+            (None, fault) => Err(Failure::from(fault)),
         },
-    }
-}
-
-// Why a pass couldn't go on.
-fn failure_of(rt: &impl AllocGlobal, fault: StreamFault) -> Failure {
-    match fault {
-        StreamFault::Read => {
-            let place = format!(in rt.alloc(); "standard input: a read failed");
-            Failure::at(Fault::Read, place)
-        }
-        fault => Failure::from(fault),
     }
 }

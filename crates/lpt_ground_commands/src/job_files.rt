@@ -30,11 +30,6 @@ pub struct JobFile {
 }
 
 impl JobFile {
-    /// The source of the job's first run: its loads have it in each run.
-    pub fn first_source(&self) -> Option<u16> {
-        self.sources.first().copied()
-    }
-
     // Its first line, which says of which requests it is.
     fn line(&self) -> &[u8] {
         let (line, _) = first_line(self.octets.as_slice());
@@ -63,24 +58,6 @@ pub struct JobFront {
     pub goes_on: bool,
     /// Whether the packets that settle requests are kept.
     pub keeps: bool,
-}
-
-// The file of a job at this path; none if there is no such file.
-fn job_at(rt: &impl Machine, path: &str) -> Result<Option<JobFile>, Failure> {
-    if let Err(error) = fs::metadata(rt, path) {
-        if error.kind() == ErrorKind::NotFound {
-            return Ok(None);
-        }
-    }
-    let octets = file_at(rt, path)?;
-    match job_in(rt.alloc(), octets) {
-        Ok(Some(job)) => Ok(Some(job)),
-        Ok(None) => {
-            let place = format!(in rt.alloc(); "{path}: it is no file of a job");
-            Err(Failure::at(Fault::Read, place))
-        }
-        Err(_) => Err(Failure::from(Fault::Memory)),
-    }
 }
 
 // The job that these octets are the file of, if they are. The only error is out of memory.
@@ -148,16 +125,28 @@ fn number_in(word: &[u8]) -> Option<u16> {
 ///
 /// Errors: `Read` if it can't be read, or is no job's; `Memory`.
 pub fn kept_job(rt: &impl Machine, words: &GroundWords<'_>) -> Result<Option<JobFile>, Failure> {
-    match words.kept {
-        Some(path) => job_at(rt, path),
-        None => Ok(None),
+    let Some(path) = words.kept else {
+        return Ok(None);
+    };
+    if let Err(error) = fs::metadata(rt, path) {
+        if error.kind() == ErrorKind::NotFound {
+            return Ok(None);
+        }
+    }
+    let octets = file_at(rt, path)?;
+    match job_in(rt.alloc(), octets)? {
+        Some(job) => Ok(Some(job)),
+        None => {
+            let place = format!(in rt.alloc(); "{path}: it is no file of a job");
+            Err(Failure::at(Fault::Read, place))
+        }
     }
 }
 
 /// Under which sources a run of this job asks that has this one of its own.
 pub fn sources_of(job: &Option<JobFile>, own: u16) -> Sources {
     let first = match job {
-        Some(job) => job.first_source(),
+        Some(job) => job.sources.first().copied(),
         None => None,
     };
     Sources {
@@ -167,12 +156,13 @@ pub fn sources_of(job: &Option<JobFile>, own: u16) -> Sources {
     }
 }
 
-/// What is kept of the job of this errand, whose file this was, if one is asked for.
+/// What is kept of the job of this errand, whose file this was, if one is asked for. What that says
+/// is settled is so from the beginning.
 ///
 /// Errors: `Read` if the file is another job's; `Config` if an earlier run of the job asked under
 /// the run's source, and this one would ask too; `Memory`.
 pub fn job_begun(
-    rt: &impl Machine,
+    rt: &impl AllocGlobal,
     words: &GroundWords<'_>,
     sources: Sources,
     job: Option<JobFile>,
@@ -181,50 +171,27 @@ pub fn job_begun(
     let Some(path) = words.kept else {
         return Ok(None);
     };
-    let Ok(title) = title_of(rt.alloc(), words, sources.first, &errand.places) else {
-        return Err(Failure::from(Fault::Memory));
-    };
-    let front = begin_job(rt, path, title.as_str(), job, errand, sources.own)?;
-    Ok(Some(front))
-}
-
-// Begins a run of the job of this errand, which has this title, under this source: what the job's
-// file says is settled is so from the beginning.
-//
-// Errors: as of `job_begun`.
-fn begin_job(
-    rt: &impl Machine,
-    path: &str,
-    title: &str,
-    job: Option<JobFile>,
-    errand: &mut Errand,
-    source: u16,
-) -> Result<JobFront, Failure> {
-    let Ok(line) = line_of(rt.alloc(), title, &errand.first) else {
-        return Err(Failure::from(Fault::Memory));
-    };
-    let goes_on = job.is_some();
+    let alloc = rt.alloc();
+    let title = title_of(alloc, words, sources.first, &errand.places)?;
+    let line = line_of(alloc, title.as_str(), &errand.first)?;
     let front = match &job {
-        None => front_of(rt.alloc(), line.as_str(), &[], source),
+        None => front_of(alloc, line.as_str(), &[], sources.own)?,
         Some(job) => {
-            go_on(rt, path, line.as_str(), job, errand, source)?;
-            front_of(rt.alloc(), line.as_str(), &job.sources, source)
+            go_on(rt, path, line.as_str(), job, errand, sources.own)?;
+            front_of(alloc, line.as_str(), &job.sources, sources.own)?
         }
     };
-    match (front, format!(in rt.alloc(); "{path}")) {
-        (Ok(front), Ok(path)) => Ok(JobFront {
-            path,
-            front,
-            goes_on,
-            keeps: errand.keeps_answers(),
-        }),
-        _ => Err(Failure::from(Fault::Memory)),
-    }
+    Ok(Some(JobFront {
+        path: format!(in alloc; "{path}")?,
+        front,
+        goes_on: job.is_some(),
+        keeps: errand.keeps_answers(),
+    }))
 }
 
 // Has the errand go on from this file, at this path, whose first line is this, under this source.
 fn go_on(
-    rt: &impl Machine,
+    rt: &impl AllocGlobal,
     path: &str,
     line: &str,
     job: &JobFile,
@@ -234,9 +201,7 @@ fn go_on(
     if job.line() != line.as_bytes() {
         return Err(foreign(rt, path, job.line()));
     }
-    if hear_job(rt.alloc(), job, errand).is_err() {
-        return Err(Failure::from(Fault::Memory));
-    }
+    hear_job(rt.alloc(), job, errand)?;
     if job.has_source(source) && errand.asks() {
         return Err(heard_before(rt, path, source));
     }

@@ -22,10 +22,9 @@ mod places;
 mod uplinks;
 
 pub use errands::Errand;
-pub use ground_notes::GroundNotes;
 pub use ground_told::Teller;
-pub use ground_wires::{Ears, Wire, hear_source, limit_of};
-pub use grounds::{Ready, ground, job_lock, put_over, ready_of};
+pub use ground_wires::limit_of;
+pub use grounds::{Ready, carry_over, ground, job_lock, ready_of};
 pub use lpt_command_line::{GroundWords, SettingWords};
 pub use lpt_io::{EndMachine, Failure, PlainMachine, Status, UsedFile, Voice};
 pub use outputs::{check_places, files_used};

@@ -1,9 +1,7 @@
 //! Files that a job uses; and dumps for whose files there is no place.
 
 use lpt_command_line::{GroundWords, Job, SettingWords, SourceWords, SpacecraftWords};
-use lpt_io::{
-    Failure, Fault, Usage, UsedFile, add_craft_files, add_file, add_settings_file, check_place,
-};
+use lpt_io::{Failure, Usage, UsedFile, add_craft_files, add_file, add_settings_file, check_place};
 use std::alloc::{AllocError, Global};
 use std::rt::Files;
 
@@ -18,31 +16,18 @@ pub fn files_used<'a>(
     craft: Option<&SpacecraftWords<'a>>,
 ) -> Result<Vec<UsedFile<'a>>, Failure> {
     let mut files = Vec::new(alloc);
-    match add_all(&mut files, settings, words, craft) {
-        Ok(()) => Ok(files),
-        Err(_) => Err(Failure::from(Fault::Memory)),
-    }
-}
-
-// Adds them. The only error is out of memory.
-fn add_all<'a>(
-    files: &mut Vec<UsedFile<'a>>,
-    settings: &SettingWords<'a>,
-    words: &GroundWords<'a>,
-    craft: Option<&SpacecraftWords<'a>>,
-) -> Result<(), AllocError> {
-    add_settings_file(files, settings)?;
-    add_file(files, "<LIST>", words.list, Usage::Read)?;
-    add_areas(files, words)?;
-    add_file(files, "--job <FILE>", words.kept, Usage::Locked)?;
+    add_settings_file(&mut files, settings)?;
+    add_file(&mut files, "<LIST>", words.list, Usage::Read)?;
+    add_areas(&mut files, words)?;
+    add_file(&mut files, "--job <FILE>", words.kept, Usage::Locked)?;
     if let SourceWords::Next(path) = words.source {
-        add_file(files, "--passes <FILE>", Some(path), Usage::Locked)?;
+        add_file(&mut files, "--passes <FILE>", Some(path), Usage::Locked)?;
     }
-    add_file(files, "--up <FIFO>", words.up, Usage::Put)?;
-    match craft {
-        Some(craft) => add_craft_files(files, craft),
-        None => Ok(()),
+    add_file(&mut files, "--up <FIFO>", words.up, Usage::Put)?;
+    if let Some(craft) = craft {
+        add_craft_files(&mut files, craft)?;
     }
+    Ok(files)
 }
 
 // Adds the files of areas: those of a dump are written. The only error is out of memory.

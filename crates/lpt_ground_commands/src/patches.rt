@@ -85,9 +85,7 @@ pub fn patches_at(
     match toml::table_from_str(rt.alloc(), text) {
         Ok(table) => patches_in(rt, path, files, &table),
         Err(error) => {
-            let Ok(complaint) = complain_of_toml(rt.alloc(), text, &error) else {
-                return Err(Failure::from(Fault::Memory));
-            };
+            let complaint = complain_of_toml(rt.alloc(), text, &error)?;
             let line = complaint.line().unwrap_or(1);
             let place = format!(in rt.alloc(); "{path}:{line}: {complaint}");
             Ok(refuse(rt, place))
@@ -151,9 +149,8 @@ fn pieces_in(
             let flaw = flaw_at("file", why);
             return Ok(refuse(rt, place_of(rt.alloc(), path, Some(number), flaw)));
         }
-        if pieces.push(piece).is_err() || files.push(patch.file).is_err() {
-            return Err(Failure::from(Fault::Memory));
-        }
+        pieces.push(piece)?;
+        files.push(patch.file)?;
     }
     Ok(Some(pieces))
 }
@@ -302,9 +299,7 @@ fn verify_in(table: &Table) -> Result<bool, Flaw<'_>> {
 fn piece_of(rt: &impl Machine, patch: Patch<'_>) -> Result<Piece, Failure> {
     let octets = file_at(rt, patch.file)?;
     let path = patch.file;
-    let Ok(file) = format!(in rt.alloc(); "{path}") else {
-        return Err(Failure::from(Fault::Memory));
-    };
+    let file = format!(in rt.alloc(); "{path}")?;
     Ok(Piece {
         memory: patch.memory,
         address: patch.address,

@@ -1,8 +1,8 @@
 //! What a job is of, area by area.
 
 use crate::patches::patches_at;
-use lpt_command_line::{AreaWords, GroundWords, Job};
-use lpt_io::{Failure, Fault, Machine, UsedFile, file_at};
+use lpt_command_line::{GroundWords, Job};
+use lpt_io::{Failure, Machine, UsedFile, file_at};
 use lpt_packet::Octets;
 
 /// An area of a job.
@@ -36,25 +36,18 @@ pub fn pieces_of(
     }
     let mut pieces = Vec::new(rt.alloc());
     for area in &words.areas {
-        if pieces.push(piece_of(rt, words.job, area)?).is_err() {
-            return Err(Failure::from(Fault::Memory));
-        }
+        let octets = match words.job {
+            Job::Dump => Octets::from_vec(Vec::new(rt.alloc())),
+            _ => file_at(rt, area.file)?,
+        };
+        pieces.push(Piece {
+            memory: area.memory,
+            address: area.address,
+            len: area.len,
+            verify: false,
+            octets,
+            file: None,
+        })?;
     }
     Ok(Some(pieces))
-}
-
-// The area of these words.
-fn piece_of(rt: &impl Machine, job: Job, area: &AreaWords<'_>) -> Result<Piece, Failure> {
-    let octets = match job {
-        Job::Dump => Octets::from_vec(Vec::new(rt.alloc())),
-        _ => file_at(rt, area.file)?,
-    };
-    Ok(Piece {
-        memory: area.memory,
-        address: area.address,
-        len: area.len,
-        verify: false,
-        octets,
-        file: None,
-    })
 }
