@@ -116,7 +116,7 @@ pub fn tell_lost(
     news: &NewsAs,
 ) -> Result<(), AllocError> {
     let word = name_text(rt.alloc(), source_of(user, reading), name)?;
-    let who = who(rt.alloc(), user, reading, Some(name))?;
+    let who = who(rt.alloc(), user, reading, name)?;
     match news {
         NewsAs::Given(_) => Ok(()),
         NewsAs::Dropped(came) | NewsAs::Overtaken(came, _) => {

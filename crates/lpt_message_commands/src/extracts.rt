@@ -7,10 +7,10 @@ use crate::extract_notices::Telling;
 use lpt_carried::{Reading, Skips, Wanted as Parts};
 use lpt_command_line::ExtractWords;
 use lpt_events::Config;
-use lpt_extract::{ExtractEnd, Extracted, ImagePlace, Others, Tally, Wanted, extract_stream};
+use lpt_extract::{ExtractEnd, Extracted, ImagePlace, Others, Wanted, extract_stream};
 use lpt_io::{
-    Failure, Fault, Machine, Packets, Status, Voice, carried_ended, opened_packets, output,
-    own_or_read, reading_of, tell_no_packets, tell_place, tell_text,
+    Failure, Fault, Machine, Status, Voice, carried_ended, opened_packets, output, own_or_read,
+    reading_of, tell_no_packets, tell_place, tell_text,
 };
 use lpt_packet::Direction;
 use std::alloc::{AllocError, Global};
@@ -46,35 +46,23 @@ pub fn extract<R: Machine>(
     };
     let parts = words.join.then_some((u32::from(config.source), reading));
     let mut source = opened_packets(rt, voice, &words.files, None, None)?;
-    let status = extract_packets(rt, voice, parts, &wanted, &words.files, &mut source);
-    drop(source);
-    status
-}
-
-// The same of packets that were opened at these paths. If parts are joined, this source is
-// configured, and they are read so.
-fn extract_packets<R: Machine>(
-    rt: &R,
-    voice: Voice,
-    parts: Option<(u32, Reading)>,
-    wanted: &Wanted,
-    paths: &[&str],
-    source: &mut Packets<R>,
-) -> Result<Status, Failure> {
     let mut out = output(rt)?;
     let (extracted, lost) = match &parts {
         Some((user, reading)) => {
-            extract_parts(rt, voice, *user, reading, wanted, source, &mut out)
+            extract_parts(rt, voice, *user, reading, &wanted, &mut source, &mut out)
         }
         None => {
             let mut telling = Telling { rt, voice };
-            let extracted = extract_stream(rt.alloc(), wanted, source, &mut out, &mut telling);
+            let alloc = rt.alloc();
+            let extracted = extract_stream(alloc, &wanted, &mut source, &mut out, &mut telling);
             (extracted, false)
         }
     };
-    let extracted = carried_ended(rt, voice, source, paths, out, extracted)?;
+    let extracted = carried_ended(rt, voice, &source, &words.files, out, extracted);
+    drop(source);
+    let extracted = extracted?;
     let joined = parts.map(|(_, reading)| reading);
-    let status = extract_status(rt, voice.tells() || lost, wanted, joined, &extracted);
+    let status = extract_status(rt, voice.tells() || lost, &wanted, joined, &extracted);
     drop(extracted);
     match status {
         Ok(Status::Done) if lost => Ok(Status::Refused),
@@ -114,7 +102,14 @@ fn extract_status(
             tell_place(rt, "nothing was written: the image isn't whole");
             tell_image(rt, wanted, extracted);
         }
-        ExtractEnd::Nothing => tell_nothing(rt, wanted, &extracted.tally),
+        ExtractEnd::Nothing => {
+            tell_nothing(rt, wanted);
+            tell_others(
+                rt,
+                extracted.tally.memories,
+                "dump reports of another memory",
+            );
+        }
         ExtractEnd::TooLarge(_) => {}
     }
     if tells || !extracted.is_clean() {
@@ -192,12 +187,6 @@ fn tell_gaps(rt: &(impl Eprint + AllocGlobal), memory: u8, gaps: &BTreeMap<u64, 
     }
 }
 
-// Tells that nothing was written, and which reports were of another memory than what is wanted.
-fn tell_nothing(rt: &(impl Eprint + AllocGlobal), wanted: &Wanted, tally: &Tally) {
-    tell_text(rt, nothing_text(rt.alloc(), wanted));
-    tell_others(rt, tally.memories, "dump reports of another memory");
-}
-
 // Tells how many these were, and of which memory or APID the first was.
 fn tell_others(rt: &(impl Eprint + AllocGlobal), others: Others, what: &str) {
     let Others { count, first } = others;
@@ -248,16 +237,14 @@ fn tell_unread(rt: &(impl Eprint + AllocGlobal), reading: Reading, count: u64, p
     }
 }
 
-// Why nothing was written. The only error is out of memory.
-fn nothing_text(alloc: Global, wanted: &Wanted) -> Result<String, AllocError> {
-    match wanted.at {
-        None => format!(in alloc; "no whole dump report gave an area"),
-        Some(place) => {
-            let memory = place.memory;
-            let from = place.from;
-            format!(in alloc;
-                "memory {memory}: no whole report gave octets for address {from} or later ones"
-            )
-        }
-    }
+// Tells why nothing was written.
+fn tell_nothing(rt: &(impl Eprint + AllocGlobal), wanted: &Wanted) {
+    let Some(place) = wanted.at else {
+        return tell_place(rt, "no whole dump report gave an area");
+    };
+    let (memory, from) = (place.memory, place.from);
+    let text = format!(in rt.alloc();
+        "memory {memory}: no whole report gave octets for address {from} or later ones"
+    );
+    tell_text(rt, text);
 }

@@ -212,7 +212,7 @@ fn tell_end(
 ) -> Result<Status, AllocError> {
     let alloc = rt.alloc();
     let reading = &joining.wanted.reading;
-    let who = who(alloc, joining.user, reading, Some(name))?;
+    let who = who(alloc, joining.user, reading, name)?;
     let against = tell_size(rt, joining, &who, gathering)?;
     match end {
         JoinEnd::Written(_) if joining.words.first => return Ok(Status::Done),
@@ -224,22 +224,16 @@ fn tell_end(
     if let Some(behind) = against {
         let place = behind.saturating_add(joining.words.span.from.unwrap_or(0));
         let text = match end {
-            JoinEnd::BrokenOff => contradicting(alloc, place)?,
-            _ => foreign(alloc, place)?,
+            JoinEnd::BrokenOff => format!(in alloc;
+                "{who}: broken off: the part at octet {place} contradicts those before it"
+            ),
+            _ => format!(in alloc;
+                "{who}: parts of another message of this name come from octet {place} on"
+            ),
         };
-        tell(rt, format!(in alloc; "{who}: {text}"))?;
+        tell(rt, text)?;
     }
     Ok(Status::Refused)
-}
-
-// That the part at this place broke a message off.
-fn contradicting(alloc: Global, place: u64) -> Result<String, AllocError> {
-    format!(in alloc; "broken off: the part at octet {place} contradicts those before it")
-}
-
-// That the parts from this place on aren't all of the message.
-fn foreign(alloc: Global, place: u64) -> Result<String, AllocError> {
-    format!(in alloc; "parts of another message of this name come from octet {place} on")
 }
 
 // Says the part size of a transaction, if that isn't known before and more is told than what is
@@ -270,16 +264,11 @@ pub fn who(
     alloc: Global,
     source: u32,
     reading: &Reading,
-    name: Option<Name>,
+    name: Name,
 ) -> Result<String, AllocError> {
     let direction = reading.direction.word();
-    match name {
-        Some(name) => {
-            let word = name_text(alloc, source_of(source, reading), name)?;
-            format!(in alloc; "{direction} {word}")
-        }
-        None => format!(in alloc; "{direction}"),
-    }
+    let word = name_text(alloc, source_of(source, reading), name)?;
+    format!(in alloc; "{direction} {word}")
 }
 
 /// The source that is meant if none is said: 0 if the layout has no field for it.

@@ -7,7 +7,7 @@ use lpt_carried::Tailored;
 use lpt_command_line::{SplitEachWords, WideName, WordFault};
 use lpt_events::Config;
 use lpt_io::{
-    Failure, Incoming, Machine, Status, copied_ended, open_input, output, own_or_read, tell_place,
+    Failure, Machine, Status, copied_ended, open_input, output, own_or_read, tell_place,
     word_refused,
 };
 use lpt_layout::Width;
@@ -36,10 +36,19 @@ pub fn split_all<R: Machine>(
         Err(fault) => return Ok(word_refused(rt, rt.alloc(), &fault)),
     };
     let picks = picks_of(rt.alloc(), words)?;
+    let fill = Fill::new(config);
+    let wanted = EachWanted {
+        writing: writing_of(config, tailored, &words.split, name, &fill),
+        id: name.id,
+        picks: &picks,
+        first: words.split.first,
+    };
     let mut source = open_input(rt, words.split.file)?;
-    let status = split_from(rt, config, tailored, words, name, &picks, &mut source);
+    let mut out = output(rt)?;
+    let split = split_each(rt.alloc(), &wanted, &mut source, &mut out);
+    let split = copied_ended(rt, source.inner(), words.split.file, out, split);
     drop(source);
-    status
+    Ok(tell_outcome(rt, &wanted, words, split?)?)
 }
 
 // The name of the first that the words give, if the layout has room for it and for those that are
@@ -72,46 +81,6 @@ fn picks_of<'a>(alloc: Global, words: &SplitEachWords<'a>) -> Result<Vec<Pick<'a
         })?;
     }
     Ok(picks)
-}
-
-// What is wanted of the packets.
-fn wanted_of<'a>(
-    config: &Config,
-    tailored: &Tailored,
-    words: &SplitEachWords<'_>,
-    name: WideName,
-    picks: &'a [Pick<'a>],
-    fill: &'a Fill,
-) -> EachWanted<'a>
-    requires { IsConfig config.now }
-{
-    let writing = writing_of(config, tailored, &words.split, name, fill);
-    EachWanted {
-        writing,
-        id: name.id,
-        picks,
-        first: words.split.first,
-    }
-}
-
-// The same of packets that were opened.
-fn split_from<R: Machine>(
-    rt: &R,
-    config: &Config,
-    tailored: &Tailored,
-    words: &SplitEachWords<'_>,
-    name: WideName,
-    picks: &[Pick<'_>],
-    source: &mut Incoming<R>,
-) -> Result<Status, Failure>
-    requires { IsConfig config.now }
-{
-    let fill = Fill::new(config);
-    let wanted = wanted_of(config, tailored, words, name, &*picks, &fill);
-    let mut out = output(rt)?;
-    let split = split_each(rt.alloc(), &wanted, source, &mut out);
-    let split = copied_ended(rt, source.inner(), words.split.file, out, split)?;
-    Ok(tell_outcome(rt, &wanted, words, split)?)
 }
 
 // The status of a split that ended so, after it was told what wasn't split. The only error is out

@@ -72,32 +72,18 @@ pub fn split<R: Machine>(
         Err(fault) => return Ok(word_refused(rt, rt.alloc(), &fault)),
     };
     let fill = Fill::new(config);
-    let wanted = wanted_of(config, tailored, &*words, name, &fill);
+    let wanted = Wanted {
+        writing: writing_of(config, tailored, &words.split, name, &fill),
+        id: name.id,
+        parts: words.parts.as_bytes(),
+        first: words.split.first,
+        whole: words.split.whole,
+    };
     let message = open_input(rt, words.split.file)?;
     let mut source = Keeping::new(rt.alloc(), message, LONGEST_PACKET)?;
     let status = split_from(rt, config, &layouts, words, &wanted, &mut source);
     drop(source);
     status
-}
-
-// What is wanted of the message.
-fn wanted_of<'a>(
-    config: &Config,
-    tailored: &Tailored,
-    words: &SplitOneWords<'a>,
-    name: WideName,
-    fill: &'a Fill,
-) -> Wanted<'a>
-    requires { IsConfig config.now }
-{
-    let writing = writing_of(config, tailored, &words.split, name, fill);
-    Wanted {
-        writing,
-        id: name.id,
-        parts: words.parts.as_bytes(),
-        first: words.split.first,
-        whole: words.split.whole,
-    }
 }
 
 /// The name that the words give, if the layout has room for it.
@@ -187,7 +173,11 @@ fn split_from<R: Machine>(
             tell_misfit(rt, config, layouts, &words.split, size, kept);
             Ok(Status::Done)
         }
-        end => Ok(unsplit(rt, wanted, words, end)),
+        end => {
+            let size = wanted.writing.part_size;
+            tell_text(rt, reason(rt.alloc(), size, words.parts, end));
+            Ok(status_of(end))
+        }
     }
 }
 
@@ -226,18 +216,6 @@ fn tell_misfit(
         }
     };
     tell_text(rt, text);
-}
-
-// The status of a split that ended so, after it was told what wasn't split.
-fn unsplit(
-    rt: &(impl Eprint + AllocGlobal),
-    wanted: &Wanted<'_>,
-    words: &SplitOneWords<'_>,
-    end: SplitEnd,
-) -> Status {
-    let size = wanted.writing.part_size;
-    tell_text(rt, reason(rt.alloc(), size, words.parts, end));
-    status_of(end)
 }
 
 /// The status of a split that ended so.

@@ -12,18 +12,8 @@ const ADDRESSES: u64 = 1 << 32;
 ///
 /// Errors: `Read` if the file can't be opened or read; `Write`, `Memory`.
 pub fn checksum<R: Machine>(rt: &R, words: &ChecksumWords<'_>) -> Result<Status, Failure> {
-    let octets = file_at(rt, words.file)?;
-    let status = write_checksum(rt, words, octets.as_slice());
-    drop(octets);
-    status
-}
-
-// Writes that of the octets that the words name.
-fn write_checksum(
-    rt: &(impl Print + Eprint + AllocGlobal),
-    words: &ChecksumWords<'_>,
-    octets: &[u8],
-) -> Result<Status, Failure> {
+    let read = file_at(rt, words.file)?;
+    let octets = read.as_slice();
     let Some(named) = named_in(words, octets) else {
         tell_unnamed(rt, words.file, octets.len());
         return Ok(Status::Refused);

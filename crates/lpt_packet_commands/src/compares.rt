@@ -105,8 +105,8 @@ fn tell_passed(rt: &(impl Eprint + AllocGlobal), unread: u64, parts: u64) {
     }
 }
 
-// Tells what is lacking of a comparison, if no report agrees at this address: that, or that the file
-// has no octets to compare.
+// Tells what is lacking of a comparison, if no report agrees at this address: that, or that the
+// file has no octets to compare.
 fn tell_lacking(
     rt: &(impl Eprint + AllocGlobal),
     words: &CompareWords<'_>,

@@ -7,8 +7,8 @@ use crate::layouts::tell_hint;
 use lpt_command_line::DecodeWords;
 use lpt_events::{Config, part_kind};
 use lpt_io::{
-    Failure, Fault, Incoming, Machine, STANDARD, Status, layouts_at, open_input, output,
-    read_failure, status_of, tell_text, write_all_out, written_ended,
+    Failure, Fault, Machine, STANDARD, Status, layouts_at, open_input, output, read_failure,
+    status_of, tell_text, write_all_out, written_ended,
 };
 use lpt_list::{Form, decode_layouts, hint_of, is_read, print_refused};
 use lpt_packet::{Direction, Octets, Packet, PacketFault, PacketKind, Seen, read_packet};
@@ -190,14 +190,7 @@ fn octets_given<R: Machine>(rt: &R, hex: Option<&str>) -> Result<Option<Octets>,
 // Errors: `Read` if it can't be read, or has more than 16,777,216 octets; `Memory`.
 fn standard_text<R: Machine>(rt: &R) -> Result<Vec<u8>, Failure> {
     let mut source = open_input(rt, STANDARD)?;
-    let text = text_of(rt, &mut source);
-    drop(source);
-    text
-}
-
-// The same of a source that was opened.
-fn text_of<R: Machine>(rt: &R, source: &mut Incoming<R>) -> Result<Vec<u8>, Failure> {
-    let (text, end) = read_text(rt.alloc(), source)?;
+    let (text, end) = read_text(rt.alloc(), &mut source)?;
     match end {
         End::Whole => Ok(text),
         End::Failed => Err(read_failure(rt, source.inner(), STANDARD)),

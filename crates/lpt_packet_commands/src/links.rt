@@ -1,11 +1,8 @@
 //! Packets carried over a link that loses, from files or standard input to standard output.
 
 use crate::layouts::own_or_given;
-use lpt_carried::Layouts;
 use lpt_command_line::LinkWords;
-use lpt_io::{
-    Failure, Machine, Packets, Status, Voice, carried_ended, opened_packets, output, tell_text,
-};
+use lpt_io::{Failure, Machine, Status, Voice, carried_ended, opened_packets, output, tell_text};
 use lpt_lossy::{CrossingCounts, Dice, LossyEnd, LossyLink, Odds, lossy_stream};
 
 /// Carries packets over a link that loses, and tells how many were lost, repeated and so on. Which
@@ -19,20 +16,6 @@ pub fn link<R: Machine>(rt: &R, voice: Voice, words: &LinkWords<'_>) -> Result<S
     let Some(layouts) = own_or_given(rt, words.layout)? else {
         return Ok(Status::Unreadable);
     };
-    let mut source = opened_packets(rt, voice, &words.files, None, None)?;
-    let status = carry_packets(rt, voice, &layouts, words, &mut source);
-    drop(source);
-    status
-}
-
-// The same of packets that were opened.
-fn carry_packets<R: Machine>(
-    rt: &R,
-    voice: Voice,
-    layouts: &Layouts,
-    words: &LinkWords<'_>,
-    source: &mut Packets<R>,
-) -> Result<Status, Failure> {
     let odds = Odds {
         lose: words.odds.lose,
         repeat: words.odds.repeat,
@@ -41,15 +24,17 @@ fn carry_packets<R: Machine>(
         delay: words.odds.delay,
     };
     let link = LossyLink {
-        layouts: *layouts,
+        layouts,
         most_later: words.odds.delay,
     };
     let mut dice = Dice::new(odds, words.odds.seed);
+    let mut source = opened_packets(rt, voice, &words.files, None, None)?;
     let mut out = output(rt)?;
-    let carried = lossy_stream(rt.alloc(), &link, &mut dice, source, &mut out);
+    let carried = lossy_stream(rt.alloc(), &link, &mut dice, &mut source, &mut out);
     drop(dice);
-    let end = carried_ended(rt, voice, source, &words.files, out, carried)?;
-    Ok(link_status(rt, voice, end))
+    let end = carried_ended(rt, voice, &source, &words.files, out, carried);
+    drop(source);
+    Ok(link_status(rt, voice, end?))
 }
 
 // The status of a run that ended so, once it was told how many packets were lost and so on, and

@@ -72,39 +72,18 @@ fn list_packets<R: Machine>(
     );
     let listed = carried_ended(rt, voice, source.source(), &words.files, out, listed)?;
     if voice.tells() {
-        let is_given = words.layout.is_some();
-        tell_others(
-            rt,
-            config.part_size,
-            is_given,
-            layouts,
-            source.octets_kept(),
-        );
+        let front = source.octets_kept();
+        if words.layout.is_some() {
+            tell_front(rt, layouts, front);
+        } else {
+            tell_own_front(rt, front);
+            tell_size(rt, front, config.part_size);
+        }
     }
     let is_short = source.source().before() > 0;
     match list_status(rt, voice, listed) {
         Status::Done if is_short => Ok(Status::Refused),
         status => Ok(status),
-    }
-}
-
-// Tells by which other layout or part size parts at the front of a stream would be read that aren't
-// read by these layouts, which are given or are the profile's.
-fn tell_others(
-    rt: &(impl Eprint + AllocGlobal),
-    p: u32,
-    is_given: bool,
-    layouts: &Layouts,
-    front: &[u8],
-)
-    requires size { IsPartSize p }
-    requires sizes { SizesFit layouts.now }
-{
-    if is_given {
-        tell_front(rt, layouts, front);
-    } else {
-        tell_own_front(rt, front);
-        tell_size(rt, front, p);
     }
 }
 
@@ -165,8 +144,12 @@ fn may_be_other(octets: &[u8], p: u32) -> bool
 fn list_status(rt: &(impl Eprint + AllocGlobal), voice: Voice, listed: Listed) -> Status {
     match listed.end {
         ListEnd::Whole => {
-            if voice.tells() {
-                tell_tally(rt, listed.tally);
+            let Tally { damaged, stray } = listed.tally;
+            if voice.tells() && (damaged != 0 || stray != 0) {
+                let text = format!(in rt.alloc();
+                    "damaged packets: {damaged}, octets that are no packet: {stray}"
+                );
+                tell_text(rt, text);
             }
             Status::Done
         }
@@ -178,16 +161,4 @@ fn list_status(rt: &(impl Eprint + AllocGlobal), voice: Voice, listed: Listed) -
             Status::Refused
         }
     }
-}
-
-// Tells how much of a stream is no packet, if something is.
-fn tell_tally(rt: &(impl Eprint + AllocGlobal), tally: Tally) {
-    let Tally { damaged, stray } = tally;
-    if damaged == 0 && stray == 0 {
-        return;
-    }
-    let text = format!(in rt.alloc();
-        "damaged packets: {damaged}, octets that are no packet: {stray}"
-    );
-    tell_text(rt, text);
 }

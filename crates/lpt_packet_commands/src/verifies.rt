@@ -1,7 +1,7 @@
 //! Requests matched with the reports on them, from files or standard input to standard output.
 
 use crate::layouts::own_or_given;
-use lpt_carried::{Layout, Layouts};
+use lpt_carried::Layout;
 use lpt_command_line::VerifyWords;
 use lpt_io::{
     Failure, Fault, Machine, Status, Voice, finish, first_failure, name_of, opened_packets, output,
@@ -25,19 +25,9 @@ pub fn verify<R: Machine>(
     voice: Voice,
     words: &VerifyWords<'_>,
 ) -> Result<Status, Failure> {
-    match own_or_given(rt, words.layout)? {
-        Some(layouts) => verify_by(rt, voice, &layouts, words),
-        None => Ok(Status::Unreadable),
-    }
-}
-
-// The same by these layouts.
-fn verify_by<R: Machine>(
-    rt: &R,
-    voice: Voice,
-    layouts: &Layouts,
-    words: &VerifyWords<'_>,
-) -> Result<Status, Failure> {
+    let Some(layouts) = own_or_given(rt, words.layout)? else {
+        return Ok(Status::Unreadable);
+    };
     let (up, down) = (&layouts.telecommands.packets, &layouts.telemetry.packets);
     let mut reports = opened_packets(rt, voice, &words.reports, None, None)?;
     let mut requests = requests_at(rt, voice, up, words.requests)?;
