@@ -22,19 +22,17 @@ def beside_misfits(ran):
 
 
 def clashes(areas, start=0):
-    """The runs of addresses from a start on for which areas contradict one another: of each area that differs from
-    those before it from the first such address to the last."""
-    held, found = {}, []
+    """The runs of addresses from a start on for which areas contradict one another."""
+    held, found = {}, set()
     for address, octets in areas:
-        unlike = [at for at, octet in enumerate(octets, address) if at >= start and held.get(at, octet) != octet]
-        found += [(unlike[0], unlike[-1])] if unlike else []
+        found |= {at for at, octet in enumerate(octets, address) if at >= start and held.get(at, octet) != octet}
         held |= dict(enumerate(octets, address))
     runs = []
-    for first, last in sorted(found):
-        if runs and first <= runs[-1][1] + 1:
-            runs[-1][1] = max(last, runs[-1][1])
+    for at in sorted(found):
+        if runs and at == runs[-1][1] + 1:
+            runs[-1][1] = at
         else:
-            runs.append([first, last])
+            runs.append([at, at])
     return [f"{first}-{last}" if first < last else first for first, last in runs]
 
 

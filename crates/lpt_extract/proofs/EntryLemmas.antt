@@ -1,5 +1,5 @@
 -- Gaps in a map in order, whose entries have the first address of each, and its last.
-use Rattle.std.proofs.Common.{◌≡◌, ◌∙◌, ap, sym, refl, subst, ℕ, ◌+◌, ◌-◌, ◌<◌, ◌≤◌, ◌&&◌, not, inl, inr, Bool, true, false, cond, List, [], ◌∷◌, ◌++◌, length, drop, get_or, map, flat_map, arith}
+use Rattle.std.proofs.Common.{◌≡◌, ◌∙◌, ap, sym, refl, subst, ℕ, ◌+◌, ◌-◌, ◌<◌, ◌≤◌, ◌&&◌, ◌||◌, nat_le, not, inl, inr, Bool, true, false, cond, List, [], ◌∷◌, ◌++◌, length, drop, get_or, map, flat_map, arith}
 use Rattle.std.proofs.lemmas.Bool.{cases_lt}
 use Rattle.std.specs.BTreeMap.{insert_entry, is_at}
 use Rattle.std.specs.BTreeMap.Range.{range_contains}
@@ -9,6 +9,8 @@ use Rattle.std.specs.Map.{remove_entry}
 use Rattle.std.specs.Ordering.{is_le, match_ordering, nat_cmp}
 use Rattle.std.specs.declared.cmp.Ordering.TheVariants.{Less, Equal, Greater}
 use Rattle.std.specs.declared.ops.Bound.TheVariants.{Excluded, Included, Unbounded}
+use Rattle.std.proofs.lemmas.Bool.Decides.{nat_tests}
+use Rattle.lpt_extract.specs.ClashesInside.{is_in}
 use Rattle.lpt_extract.specs.CoversInside.{cut, is_apart, Ascend, IsBehind}
 use Rattle.lpt_extract.specs.Gaps.{AreGaps, Gap}
 use Rattle.lpt_extract.proofs.PartLemmas.{behind, both, drops, front, in_front, keeps, met}
@@ -63,6 +65,14 @@ goes_last there k e m v (x ∷ es) h le =
     ap gaps_at (goes_on m v x es (omega (arith, h.0.some, h.0.within, le)))
     ∙ ap (λ gs. record { first = x.0; last = x.1 } ∷ gs) (goes_last there (x.1 + 1) e m v es h.1 le)
 
+or-false : (x : Bool) → (x || false) ≡ x
+or-false true = refl
+or-false false = refl
+
+and-false : (x : Bool) → (x && false) ≡ false
+and-false true = refl
+and-false false = refl
+
 module _ (at : ℕ) where
   -- none is early behind an address that isn't
   none_early : (n : ℕ) (es : List (ℕ × ℕ))
@@ -109,6 +119,22 @@ module _ (at : ℕ) where
   ] where
     Goal : Type 0
     Goal = flat_map (cut at at) (gaps_at (e ∷ es)) ≡ gaps_at (e ∷ es)
+
+  -- where none is early, the address in front is in none
+  pub none_in : (n : ℕ) (es : List (ℕ × ℕ))
+      → at ≡ n + 1
+      → filter (λ e. is_early at e.0) es ≡ []
+      → is_in (gaps_at es) n ≡ false
+  none_in n [] next is = refl
+  none_in n (e ∷ es) next is = elim (cases_lt e.0 at) as (λ _. is_in (gaps_at (e ∷ es)) n ≡ false) [
+    | inl l ↦
+        let first = keeps (λ e. is_early at e.0) e es (early at e.0 l) in
+        absurd (omega (arith, ap length (sym first ∙ is)))
+    | inr l ↦
+        let later : nat_le e.0 n ≡ false = grind (arith, nat_tests, l, next) in
+        (λ i. (later i && nat_le n e.1)
+        || none_in n es next (sym (drops (λ e. is_early at e.0) e es (late at e.0 l)) ∙ is) i)
+  ]
 
   -- which of the early ones is the last
   module _ (f l : ℕ) (low : f < at) where
@@ -159,6 +185,24 @@ module _ (at : ℕ) where
         (λ u m k i. in_front at at g (omega arith) h.0
         (omega (arith, low, last_behind e.1 es u h.2 h.1 k)) i
         ++ stays_before es u h.2 k less i)
+
+    -- where the address is the next one, the last of them tells whether an address is in a gap
+    pub last_has : (n : ℕ) (es t : List (ℕ × ℕ))
+        → at ≡ n + 1
+        → Ascend (gaps_at es)
+        → filter (λ e. is_early at e.0) es ≡ t ++ (f, l) ∷ []
+        → is_in (gaps_at es) n ≡ nat_le n l
+    last_has n [] t next h is = no_last t (f, l) _ is
+    last_has n (e ∷ es) t next h is =
+        first_early (is_in (gaps_at (e ∷ es)) n ≡ nat_le n l) e es t h is
+        (λ j k m.
+        let starts : nat_le e.0 n ≡ true = grind (arith, nat_tests, j, low, next) in
+        (λ i. (starts i && nat_le n (k i)) || none_in n es next m i) ∙ or-false (nat_le n l))
+        (λ u m k.
+        let before = last_behind e.1 es u h.2 h.1 k in
+        let past : nat_le n e.1 ≡ false = grind (arith, nat_tests, before, low, next) in
+        (λ i. (nat_le e.0 n && past i) || last_has n es u next h.2 k i)
+        ∙ ap (λ t. t || nat_le n l) (and-false (nat_le e.0 n)))
 
     -- where it reaches over the address, it alone is parted
     pub is_parted : (es t : List (ℕ × ℕ))

@@ -1,3 +1,4 @@
+mod ClashLemmas
 mod CoverLemmas
 mod EntryLemmas
 mod GapLemmas

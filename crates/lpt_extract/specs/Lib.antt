@@ -1,4 +1,5 @@
 pub mod Areas
+pub mod ClashesInside
 pub mod CoversInside
 pub mod Extracts
 pub mod ExtractsInside

@@ -1,29 +1,58 @@
 //! Where areas contradict one another.
 
+ghost use Rattle.std.specs.Prelude.{◌≡◌, ◌<◌};
+ghost use Rattle.lpt_extract.specs.ClashesInside.{is_in, is_other};
+ghost use Rattle.lpt_extract.specs.CoversInside.{Ascend};
+ghost use Rattle.lpt_extract.specs.Gaps.{gaps_in};
+
+use crate::cover::Cover;
 use std::alloc::{AllocError, Global};
 use std::collections::BTreeMap;
 
-/// Addresses for which areas gave different octets: of each area that differs from those before it
-/// the first such address, and the last.
+/// The addresses for which areas gave different octets: those before `end` that don't lie in a run
+/// of `alike`.
 ///
-/// There are no more of them than areas.
+/// There are no more runs than such addresses.
 #[derive(Drop)]
-pub(crate) struct Clashes {
-    spans: BTreeMap<u64, u64>,
+pub struct Clashes {
+    cover: Cover,
 }
 
 impl Clashes {
+    ghost use Rattle.std.specs.Prelude.{◌≡◌, ◌≤◌, ◌==◌, ◌++◌, List, ℕ, [], length, not, OnOk};
+    ghost use Rattle.lpt_memory.specs.declared.request.Area.{Area};
+    ghost use Rattle.lpt_extract.specs.ClashesInside.{cover_of, is_unlike};
+    ghost use Rattle.lpt_extract.specs.CoversInside.{end_of_cover, gaps_of, Ascend, Covers};
+    ghost use Rattle.lpt_extract.specs.Gaps.{gaps_in, is_given};
+
     // None.
-    pub(crate) fn new(alloc: Global) -> Clashes {
+    pub(crate) fn new(alloc: Global) -> Clashes
+        ensures { Covers 0 [] (cover_of result) }
+    {
         Clashes {
-            spans: BTreeMap::new(alloc),
+            cover: Cover::new(alloc),
         }
     }
 
-    // The first addresses, and the last.
-    pub(crate) fn into_spans(self) -> BTreeMap<u64, u64> {
-        let Clashes { spans } = self;
-        spans
+    /// Whether there is none.
+    pub fn is_empty(&self) -> bool
+        ensures { result ≡ (end_of_cover (cover_of self.now) == 0) }
+    {
+        self.cover.end() == 0
+    }
+
+    /// Behind the last such address; 0 if there is none.
+    pub fn end(&self) -> u64
+        ensures { result ≡ end_of_cover (cover_of self.now) }
+    {
+        self.cover.end()
+    }
+
+    /// The runs of other addresses before it: of each, its first address and its last.
+    pub fn alike(&self) -> &BTreeMap<u64, u64>
+        ensures { gaps_in result.now ≡ gaps_of (cover_of self.now) }
+    {
+        self.cover.gaps()
     }
 
     // Notes where an area differs from octets that stand from an address on and that areas gave: in
@@ -35,61 +64,47 @@ impl Clashes {
         gaps: &BTreeMap<u64, u64>,
         address: u32,
         area: &[u8],
-    ) -> Result<(), AllocError> {
-        let skipped = from.saturating_sub(address) as usize;
-        let at = address.saturating_sub(from) as usize;
-        let (Some(area), Some(standing)) = (area.get(skipped..), standing.get(at..)) else {
-            return Ok(());
-        };
-        let front = u64::from(address.max(from));
-        let Some((first, last)) = unlike(front, standing, gaps, area) else {
-            return Ok(());
-        };
-        let last = match self.spans.get(&first) {
-            Some(known) => last.max(*known),
-            None => last,
-        };
-        self.spans.insert(first, last)?;
+    ) -> Result<(), AllocError>
+        requires short { length area.now ≤ 65535 }
+
+        // Those addresses are told, besides, at which it does, and no others.
+        ensures { (told : List Area) → Ascend (gaps_in gaps.now)
+            → Covers 0 told (cover_of self.old) → OnOk result ((more : List Area) × Covers 0 (told ++ more) (cover_of self.new)
+            × ((n : ℕ) → is_given more n ≡ is_unlike from standing.now (gaps_in gaps.now)
+            (record { address = address; octets = area.now }) n)) }
+    {
+        let mut at = 0;
+        while at < area.len() {
+            let place = u64::from(address) + at as u64;
+            if is_other(from, standing, gaps, place, area[at]) {
+                self.cover.add(0, place, place + 1)?;
+            }
+            at += 1;
+        }
         Ok(())
     }
 }
 
-// The first address, and the last, from this one on, at which an area differs from octets that
-// stand in no gap.
-fn unlike(
-    first: u64,
-    standing: &[u8],
-    gaps: &BTreeMap<u64, u64>,
-    area: &[u8],
-) -> Option<(u64, u64)> {
-    let mut found: Option<(u64, u64)> = None;
-    let mut place = first;
-    // The addresses in front of this one are in a gap.
-    let mut behind = 0;
-    for (one, other) in area.iter().zip(standing) {
-        if one != other && place >= behind {
-            match gap_end(gaps, place) {
-                Some(end) => behind = end,
-                None => {
-                    let begun = match found {
-                        Some((begun, _)) => begun,
-                        None => place,
-                    };
-                    found = Some((begun, place));
-                }
-            }
-        }
-        place = place.saturating_add(1);
+// Whether an octet differs from the one that stands at its address, if one came for that.
+fn is_other(from: u32, standing: &[u8], gaps: &BTreeMap<u64, u64>, place: u64, octet: u8) -> bool
+    requires low { place < 8589934592 }
+    ensures { Ascend (gaps_in gaps.now)
+        → result ≡ is_other from standing.now (gaps_in gaps.now) place octet }
+{
+    if place < u64::from(from) {
+        return false;
     }
-    found
+    let at = (place - u64::from(from)) as usize;
+    at < standing.len() && standing[at] != octet && !has_gap(gaps, place)
 }
 
-// Where the gap ends in which an address is, if it is in one.
-fn gap_end(gaps: &BTreeMap<u64, u64>, place: u64) -> Option<u64> {
-    let (_, last) = gaps.range(..place.saturating_add(1)).next_back()?;
-    if place <= *last {
-        Some(last.saturating_add(1))
-    } else {
-        None
-    }
+// Whether an address is in a gap.
+fn has_gap(gaps: &BTreeMap<u64, u64>, place: u64) -> bool
+    requires low { place < 8589934592 }
+    ensures { Ascend (gaps_in gaps.now) → result ≡ is_in (gaps_in gaps.now) place }
+{
+    let Some((_, last)) = gaps.range(..place + 1).next_back() else {
+        return false;
+    };
+    place <= *last
 }

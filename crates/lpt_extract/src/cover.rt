@@ -56,7 +56,9 @@ impl Cover {
     }
 
     // The gaps so far.
-    pub(crate) fn gaps(&self) -> &BTreeMap<u64, u64> {
+    pub(crate) fn gaps(&self) -> &BTreeMap<u64, u64>
+        ensures { gaps_in result.now ≡ gaps_of self.now }
+    {
         &self.gaps
     }
 

@@ -1,6 +1,6 @@
 //! What an extraction gave.
 
-use crate::Tally;
+use crate::{Clashes, Tally};
 use std::collections::BTreeMap;
 
 /// How the extraction of a stream ends that was read to its end.
@@ -23,9 +23,9 @@ pub struct Extracted {
     pub end: ExtractEnd,
     /// The addresses of the image that no area gave: of each run of them the first, and the last.
     pub gaps: BTreeMap<u64, u64>,
-    /// Addresses of the image for which areas gave different octets, of which the last ones stand
-    /// there: of each area that differs from those before it the first such address, and the last.
-    pub clashes: BTreeMap<u64, u64>,
+    /// The addresses of the image for which areas gave different octets, of which the last ones
+    /// stand there.
+    pub clashes: Clashes,
     /// What wasn't taken.
     pub tally: Tally,
 }

@@ -55,7 +55,7 @@ impl Image {
     }
 
     // The gaps, and where areas contradict one another.
-    pub(crate) fn into_gaps(self) -> (BTreeMap<u64, u64>, BTreeMap<u64, u64>)
+    pub(crate) fn into_gaps(self) -> (BTreeMap<u64, u64>, Clashes)
         ensures { gaps_in result.0 ≡ gaps_of self.cover }
     {
         let Image {
@@ -63,7 +63,7 @@ impl Image {
             cover,
             clashes,
         } = self;
-        (cover.into_gaps(), clashes.into_spans())
+        (cover.into_gaps(), clashes)
     }
 
     // The octets.

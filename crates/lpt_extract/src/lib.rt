@@ -28,6 +28,7 @@ mod taking;
 mod tally;
 mod wanted;
 
+pub use clashes::Clashes;
 pub use extracted::{ExtractEnd, Extracted};
 pub use extracting::extract_stream;
 pub use joining::Hearers;

@@ -7,7 +7,9 @@ use crate::extract_notices::Telling;
 use lpt_carried::{Reading, Skips, Wanted as Parts};
 use lpt_command_line::ExtractWords;
 use lpt_events::Config;
-use lpt_extract::{ExtractEnd, Extracted, ImagePlace, Others, Wanted, extract_stream};
+use lpt_extract::{
+    Clashes, ExtractEnd, Extracted, ImagePlace, Others, Tally, Wanted, extract_stream,
+};
 use lpt_io::{
     Failure, Fault, Machine, Status, Voice, carried_ended, opened_packets, output, own_or_read,
     reading_of, tell_no_packets, tell_place, tell_text,
@@ -146,28 +148,26 @@ fn tell_image(rt: &(impl Eprint + AllocGlobal), wanted: &Wanted, extracted: &Ext
     }
 }
 
-// Tells of which addresses different octets came: those of areas that overlap or follow one another
-// as one.
-fn tell_clashes(rt: &(impl Eprint + AllocGlobal), memory: u8, clashes: &BTreeMap<u64, u64>) {
-    let mut open: Option<(u64, u64)> = None;
-    for (first, last) in clashes {
-        open = match open {
-            Some((begun, end)) if *first <= end.saturating_add(1) => Some((begun, end.max(*last))),
-            Some(told) => {
-                tell_text(rt, clash_text(rt.alloc(), memory, told));
-                Some((*first, *last))
-            }
-            None => Some((*first, *last)),
-        };
+// Tells of which addresses different octets came.
+fn tell_clashes(rt: &(impl Eprint + AllocGlobal), memory: u8, clashes: &Clashes) {
+    let mut from = 0;
+    for (first, last) in clashes.alike() {
+        tell_clash(rt, memory, from, *first);
+        from = last.saturating_add(1);
     }
-    if let Some(told) = open {
-        tell_text(rt, clash_text(rt.alloc(), memory, told));
+    tell_clash(rt, memory, from, clashes.end());
+}
+
+// The same of the addresses from one on and up to, not including, another.
+fn tell_clash(rt: &(impl Eprint + AllocGlobal), memory: u8, first: u64, end: u64) {
+    if first < end {
+        tell_text(rt, clash_text(rt.alloc(), memory, first, end - 1));
     }
 }
 
 // That different octets came for the addresses from the first to the last. The only error is out of
 // memory.
-fn clash_text(alloc: Global, memory: u8, (first, last): (u64, u64)) -> Result<String, AllocError> {
+fn clash_text(alloc: Global, memory: u8, first: u64, last: u64) -> Result<String, AllocError> {
     if first == last {
         format!(in alloc; "memory {memory}: address {first} came with different octets")
     } else {

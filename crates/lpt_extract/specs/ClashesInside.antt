@@ -1,0 +1,28 @@
+-- Which addresses areas gave different octets for.
+use Rattle.std.specs.Prelude.{ℕ, ◌-◌, ◌==◌, ◌&&◌, nat_le, nat_lt, not, Bool, List, length, get_or}
+use Rattle.std.specs.List.{list_any}
+use Rattle.lpt_memory.specs.declared.request.Area.{Area}
+use Rattle.lpt_extract.specs.declared.clashes.Clashes.{Clashes}
+use Rattle.lpt_extract.specs.declared.cover.Cover.{Cover}
+use Rattle.lpt_extract.specs.Gaps.{has, Gap}
+
+-- the addresses that are told, as a cover of areas that have them
+abbrev pub cover_of : Clashes → Cover
+cover_of c = c.cover
+
+-- whether an address is in one of these gaps
+abbrev pub is_in : List Gap → ℕ → Bool
+is_in gaps n = list_any (λ (g : Gap). nat_le g.first n && nat_le n g.last) gaps
+
+-- whether this octet differs from the one that stands at the address n, of octets that stand from
+-- an address on, and one came for n: it is in no gap
+abbrev pub is_other : (from : ℕ) → (standing : List ℕ) → List Gap → (n octet : ℕ) → Bool
+is_other from standing gaps n octet =
+    nat_le from n
+    && (nat_lt (n - from) (length standing)
+    && (not (get_or standing (n - from) 0 == octet) && not (is_in gaps n)))
+
+-- whether an area's octet does
+abbrev pub is_unlike : (from : ℕ) → (standing : List ℕ) → List Gap → Area → ℕ → Bool
+is_unlike from standing gaps a n =
+    has a n && is_other from standing gaps n (get_or a.octets (n - a.address) 0)
