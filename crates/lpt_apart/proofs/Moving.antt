@@ -18,8 +18,8 @@ use Rattle.lpt_apart.specs.Ends.{Ends, no_ends}
 use Rattle.lpt_apart.specs.Facts.{AllDue, requests_executed as executed_in, waiting}
 use Rattle.lpt_apart.specs.Steps.{Accept, Retire, after}
 use Rattle.lpt_apart.specs.Worlds.{IsPromised}
-use Rattle.lpt_apart.specs.Whole.{came_moved, came_in, WithholdsNothing, EndsApartWithholdNothing}
-use Rattle.lpt_apart.specs.Moves.{AreEventMoves, IsEventMove, Pair, Move, Do, Free, pair_after, CanMove, came_to, CanMoveAll, with_ledgers, EndsApartAreAWorld, EndsApartKeepThePromise}
+use Rattle.lpt_apart.specs.Whole.{came_moved, came_in, WithholdsNothing}
+use Rattle.lpt_apart.specs.Moves.{AreEventMoves, IsEventMove, Pair, Move, Do, Free, pair_after, CanMove, came_to, CanMoveAll, with_ledgers, EndsApartAreAWorld}
 use Rattle.lpt_apart.proofs.Promise.{promised}
 use Rattle.lpt_apart.proofs.Withheld.{withholds_nothing}
 use Rattle.lpt_apart.proofs.Stepping.{leads_off, lead_on, is_a_world}
@@ -198,7 +198,11 @@ ends_apart_are_a_world c first xs good can =
       is = b.is;
     }
 
-pub ends_apart_keep_the_promise : EndsApartKeepThePromise
+-- two ends that free a name one after the other keep the promise
+pub ends_apart_keep_the_promise : (c : Config) (first : Contents) (xs : List Move)
+    → IsConfig c
+    → CanMoveAll c first xs
+    → IsPromised c first (came_to c first xs).ends
 ends_apart_keep_the_promise c first xs good can =
     let b = (apart c first ⊥ xs good (λ u. absurd u) can).but in
     let whole : IsPromised c first b.whole =
@@ -212,7 +216,11 @@ ends_apart_keep_the_promise c first xs good can =
           → slice_get (waiting e.log) 0 ≡ Some r.message) b.is whole.next;
     }
 
-pub ends_apart_withhold_nothing : EndsApartWithholdNothing
+-- and withhold nothing
+pub ends_apart_withhold_nothing : (c : Config) (first : Contents) (xs : List Move)
+    → IsConfig c
+    → CanMoveAll c first xs
+    → WithholdsNothing c (came_to c first xs).ends.log (came_in c first xs)
 ends_apart_withhold_nothing c first xs good can =
     let b = (apart c first ⊥ xs good (λ u. absurd u) can).but in
     subst (λ (e : Ends). WithholdsNothing c e.log (came_in c first xs)) b.is

@@ -16,11 +16,9 @@ use Rattle.lpt_refinement.specs.Shows.{job_shown, jobs_from}
 use Rattle.lpt_refinement.specs.Views.{JobsView, jobs_view}
 use Rattle.lpt_apart.specs.Ends.{Ends}
 use Rattle.lpt_apart.specs.Facts.{AllDue, requests_executed, waiting, Log}
-use Rattle.lpt_apart.specs.Steps.{ends_reached}
-use Rattle.lpt_apart.specs.Worlds.{AreEventSteps, IsAWorld, IsPromised, EndsKeepThePromise}
+use Rattle.lpt_apart.specs.Worlds.{IsAWorld, IsPromised}
 use Rattle.lpt_apart.proofs.Dues.{all_due}
 use Rattle.lpt_apart.proofs.Queues.{executed_told, message_of, waiting_told}
-use Rattle.lpt_apart.proofs.Stepping.{ends_are_a_world}
 
 -- the first of these jobs is of the first of these messages, where it was read
 of_first : (v : JobsView) (n : ℕ) (ms : List (List ℕ)) (r : Source)
@@ -69,8 +67,3 @@ promised c first usual e good w = record {
       (sym (executed_told c first w.events w.legal) ∙ ap requests_executed w.log);
   next = is_next c first usual e w;
 }
-
-pub ends_keep_the_promise : EndsKeepThePromise
-ends_keep_the_promise c first xs good can =
-    promised c first (AreEventSteps xs) (ends_reached c first xs) good
-    (ends_are_a_world c first xs good can)

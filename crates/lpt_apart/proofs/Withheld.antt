@@ -8,11 +8,9 @@ use Rattle.lpt_events.specs.declared.config.Config.{Config}
 use Rattle.lpt_journal.specs.Replies.{history_after}
 use Rattle.lpt_apart.specs.Ends.{Ends}
 use Rattle.lpt_apart.specs.Facts.{Opened, Asked, Released, Aborted, Left, Retired, Restarted, Log, is_same, is_of_it, message_awaited, AllDue}
-use Rattle.lpt_apart.specs.Steps.{ends_reached}
-use Rattle.lpt_apart.specs.Whole.{came, last_opened, is_aborted, last_released, WithholdsNothing, EndsWithholdNothing, CameWhole}
+use Rattle.lpt_apart.specs.Whole.{last_opened, is_aborted, last_released, WithholdsNothing, CameWhole}
 use Rattle.lpt_apart.proofs.Awaiting.{of_it, awaits, awaited_is}
 use Rattle.lpt_apart.proofs.Dues.{all_due}
-use Rattle.lpt_apart.proofs.Stepping.{lead}
 use Rattle.lpt_apart.proofs.Ties.{Came, Leads}
 use Rattle.lpt_events.specs.declared.entry.Opening.{Opening}
 use Rattle.lpt_acts.specs.Acts.{Act}
@@ -136,8 +134,3 @@ withholds_nothing c first usual e parts good l d name m now all live =
           (ap (λ (log : Log). message_awaited log d name) t.tells ∙ awaits))
       | inr released ↦ released.1
     ]
-
-pub ends_withhold_nothing : EndsWithholdNothing
-ends_withhold_nothing c first xs good can =
-    withholds_nothing c first ⊥ (ends_reached c first xs) (came c first xs) good
-    (lead c first ⊥ xs good (λ u. absurd u) can)

@@ -3,15 +3,13 @@
 --
 -- What an end did and didn't write is no move: nothing of it was acted on or sent, so it is as if
 -- it hadn't come to it.
-use Rattle.std.specs.Prelude.{◌≡◌, ℕ, ◌+◌, ◌<◌, ◌^◌, List, [], ◌∷◌, Result, Ok, Err, ⊤}
+use Rattle.std.specs.Prelude.{◌≡◌, ℕ, ◌+◌, ◌<◌, ◌^◌, List, [], ◌∷◌, Result, Ok, Err}
 use Rattle.lpt_acts.specs.Acts.{Within, limits_of, with_limits}
-use Rattle.lpt_apart.specs.Clocks.{Own, after_all, later, no_pair_later, own_config}
+use Rattle.lpt_apart.specs.Clocks.{after_all}
 use Rattle.lpt_apart.specs.Ends.{node_at, with_node}
 use Rattle.lpt_apart.specs.Facts.{Restarted}
-use Rattle.lpt_apart.specs.Moves.{CanMove, Do, Move, Pair, pair_after}
+use Rattle.lpt_apart.specs.Moves.{Do, Move, Pair}
 use Rattle.lpt_apart.specs.Steps.{Restart, Tick}
-use Rattle.lpt_apart.specs.Worlds.{IsPromised}
-use Rattle.lpt_events.specs.Configs.{IsConfig}
 use Rattle.lpt_events.specs.declared.config.Config.{Config}
 use Rattle.lpt_events.specs.declared.side.Side.{Side}
 use Rattle.lpt_events.specs.declared.side.Side.TheVariants.{Ground, Craft}
@@ -84,40 +82,7 @@ read_back c k Craft =
       pair = with_memories (with_read k.pair Craft (reading Craft c k.craft_octets)) k.memories;
     }
 
--- ---- what may be done
-
--- two ends make a move; the state of a side's end is written; or that end is read back in a
--- configuration
-pub data Deed : Type 0 where
-  Make : Move → Deed
-  Write : Side → Deed
-  ReadBack : Side → Config → Deed
-
--- what a deed makes of them
-abbrev pub kept_after : Config → Kept → Deed → Kept
-kept_after c k (Make x) = record k { pair = pair_after c k.pair x }
-kept_after c k (Write side) = state_written c k side
-kept_after c k (ReadBack side d) = read_back d k side
-
--- A move can be made as before, and a state can be written at any time. An end can be read back if
--- nothing happened at it since it was written, in a configuration that differs in limits and first
--- clock alone.
-abbrev pub CanDo : Config → Kept → Deed → Type 0
-CanDo c k (Make x) = CanMove c k.pair x
-CanDo c k (Write side) = ⊤
-CanDo c k (ReadBack side d) = IsKept c k side × IsBoundAlike c d
-
--- two ends after these deeds, the newest of which stands first
-abbrev pub after_deeds : Config → Kept → List Deed → Kept
-after_deeds c k [] = k
-after_deeds c k (x ∷ xs) = kept_after c (after_deeds c k xs) x
-
--- each of them can be done after those before it
-abbrev pub CanDoAll : Config → Kept → List Deed → Type 0
-CanDoAll c k [] = ⊤
-CanDoAll c k (x ∷ xs) = CanDoAll c k xs × CanDo c (after_deeds c k xs) x
-
--- ---- the laws
+-- ---- the law
 
 -- these moves, after which the end of a side is restarted and then has the limits of this
 -- configuration; the newest stands first
@@ -131,13 +96,3 @@ ReadingsAreRestarts =
     → IsKept c k side
     → IsBoundAlike c d
     → (read_back d k side).pair ≡ after_all c k.pair (with_restart d side [])
-
--- whatever was done with two new ends that have clocks and limits of their own
-abbrev pub KeptEndsKeepThePromise : Type 0
-KeptEndsKeepThePromise =
-    (c : Config) (first : Contents) (g : ℕ) (t : Own) (k : Kept) (xs : List Deed)
-    → IsConfig (later g c)
-    → IsConfig (own_config t c)
-    → k.pair ≡ no_pair_later c first g t
-    → CanDoAll c k xs
-    → IsPromised c first (after_deeds c k xs).pair.ends

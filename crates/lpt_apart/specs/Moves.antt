@@ -19,7 +19,7 @@ use Rattle.lpt_node.specs.Nodes.{NodeData}
 use Rattle.lpt_apart.specs.Ends.{Ends, no_ends, node_at, with_node, without}
 use Rattle.lpt_apart.specs.Facts.{Retired, is_same}
 use Rattle.lpt_apart.specs.Steps.{Step, Retire, IsOver, CanHappen, after}
-use Rattle.lpt_apart.specs.Worlds.{IsAWorld, IsPromised, IsEventStep}
+use Rattle.lpt_apart.specs.Worlds.{IsAWorld, IsEventStep}
 
 -- ---- moves
 
@@ -132,11 +132,3 @@ EndsApartAreAWorld =
     → IsConfig c
     → CanMoveAll c first xs
     → IsAWorldBut c first (AreEventMoves xs) (came_to c first xs)
-
--- whatever two ends did, they keep the promise
-abbrev pub EndsApartKeepThePromise : Type 0
-EndsApartKeepThePromise =
-    (c : Config) (first : Contents) (xs : List Move)
-    → IsConfig c
-    → CanMoveAll c first xs
-    → IsPromised c first (came_to c first xs).ends

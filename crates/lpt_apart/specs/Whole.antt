@@ -22,7 +22,7 @@ use Rattle.lpt_journal.specs.Whole as journal
 use Rattle.lpt_apart.specs.Clocks.{Own, later, own_config, no_pair_later, after_all, CanAll}
 use Rattle.lpt_apart.specs.Ends.{Ends, node_at}
 use Rattle.lpt_apart.specs.Facts.{Fact, Opened, Released, Aborted, Retired, Log, is_same, is_of_it}
-use Rattle.lpt_apart.specs.Moves.{Pair, Move, Do, Free, came_to, CanMoveAll}
+use Rattle.lpt_apart.specs.Moves.{Pair, Move, Do, Free, came_to}
 use Rattle.lpt_apart.specs.Plays.{AllForward, steps_of, moves_of}
 use Rattle.lpt_apart.specs.Steps.{Step, Open, Accept, Apply, Restart, ends_reached, CanRun}
 
@@ -127,23 +127,7 @@ WithholdsNothing c log came =
     → is_aborted log d name ≡ false
     → last_released log d name ≡ Some m
 
--- whatever steps two ends did
-abbrev pub EndsWithholdNothing : Type 0
-EndsWithholdNothing =
-    (c : Config) (first : Contents) (xs : List Step)
-    → IsConfig c
-    → CanRun c first xs
-    → WithholdsNothing c (ends_reached c first xs).log (came c first xs)
-
--- whatever moves they did
-abbrev pub EndsApartWithholdNothing : Type 0
-EndsApartWithholdNothing =
-    (c : Config) (first : Contents) (xs : List Move)
-    → IsConfig c
-    → CanMoveAll c first xs
-    → WithholdsNothing c (came_to c first xs).ends.log (came_in c first xs)
-
--- and if they have clocks and limits of their own
+-- whatever two ends did that have clocks and limits of their own
 abbrev pub EndsWithClocksWithholdNothing : Type 0
 EndsWithClocksWithholdNothing =
     (c : Config) (first : Contents) (g : ℕ) (k : Own) (xs : List Move)

@@ -89,11 +89,3 @@ pub record IsPromised (c : Config) (first : Contents) (e : Ends) : Type 0 where
   pub next : (r : Source)
       → head_of e.on_craft.jobs.jobs ≡ Ready r
       → slice_get (waiting e.log) 0 ≡ Some r.message
-
--- whatever steps two ends did
-abbrev pub EndsKeepThePromise : Type 0
-EndsKeepThePromise =
-    (c : Config) (first : Contents) (xs : List Step)
-    → IsConfig c
-    → CanRun c first xs
-    → IsPromised c first (ends_reached c first xs)

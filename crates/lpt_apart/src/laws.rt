@@ -1,10 +1,10 @@
 //! What is proved of two ends apart: functions with empty bodies.
 
 ghost use Rattle.lpt_apart.specs.Clocks.{EndsWithClocksKeepThePromise};
-ghost use Rattle.lpt_apart.specs.Moves.{EndsApartAreAWorld, EndsApartKeepThePromise};
+ghost use Rattle.lpt_apart.specs.Moves.{EndsApartAreAWorld};
 ghost use Rattle.lpt_apart.specs.Plays.{WorldsAreEnds, StepsAreMoves};
-ghost use Rattle.lpt_apart.specs.Whole.{EndsApartWithholdNothing, EndsWithClocksWithholdNothing, EndsWithholdNothing, MovesBringTheSame, WorldsBringTheSame};
-ghost use Rattle.lpt_apart.specs.Worlds.{EndsAreAWorld, EndsKeepThePromise};
+ghost use Rattle.lpt_apart.specs.Whole.{EndsWithClocksWithholdNothing, MovesBringTheSame, WorldsBringTheSame};
+ghost use Rattle.lpt_apart.specs.Worlds.{EndsAreAWorld};
 
 /// Take two nodes of one configuration, one on each side, and any list of steps of them that can
 /// happen, if the network hands over only what the other end put out, and what is neither a part
@@ -14,27 +14,17 @@ pub fn ends_are_a_world()
     ensures { EndsAreAWorld }
 {}
 
-/// Each large message that two ends apart release is the one last opened under its name at the
-/// other end, and between that opening and the release it wasn't released, nor did its reception
-/// expire, nor was it broken off. Each plain request that was released is one that ground asked.
-/// The memories are their first content, changed by the executed requests in order of release.
-pub fn ends_keep_the_promise()
-    ensures { EndsKeepThePromise }
-{}
-
 /// The same holds if a name is freed at its receiver first and then at its sender, so that no call
 /// is of both ends: but for names that are freed at their receivers alone, the ends are a world's.
 pub fn ends_apart_are_a_world()
     ensures { EndsApartAreAWorld }
 {}
 
-/// Ends that free a name at its receiver first and then at its sender keep the promise too.
-pub fn ends_apart_keep_the_promise()
-    ensures { EndsApartKeepThePromise }
-{}
-
-/// Ends with clocks and limits of their own keep the promise too. All else of their configurations
-/// is the same.
+/// Two ends apart may have clocks and limits of their own; all else of their configurations is the
+/// same. Each large message that one releases is the one last opened under its name at the other
+/// end, and between that opening and the release it wasn't released, nor did its reception expire,
+/// nor was it broken off. Each plain request that was released is one that ground asked. The
+/// memories are their first content, changed by the executed requests in order of release.
 pub fn ends_with_clocks_keep_the_promise()
     ensures { EndsWithClocksKeepThePromise }
 {}
@@ -52,21 +42,10 @@ pub fn steps_are_moves()
     ensures { StepsAreMoves }
 {}
 
-/// Two ends withhold nothing that came whole. Take what was last opened under a name. If each of
+/// Such ends withhold nothing that came whole. Take what was last opened under a name. If each of
 /// its parts was handed over since then, and since its receiver was last restarted, while there was
 /// room, the log says since then that it was released, unless it says since then that its
 /// reception expired or was broken off. Nothing is said of parts that don't come.
-pub fn ends_withhold_nothing()
-    ensures { EndsWithholdNothing }
-{}
-
-/// Two ends withhold nothing that came whole either if a name is freed at its receiver first and
-/// then at its sender.
-pub fn ends_apart_withhold_nothing()
-    ensures { EndsApartWithholdNothing }
-{}
-
-/// Two ends withhold nothing that came whole either if they have clocks and limits of their own.
 pub fn ends_with_clocks_withhold_nothing()
     ensures { EndsWithClocksWithholdNothing }
 {}

@@ -1,6 +1,6 @@
 //! What is proved of two ends whose state is written down: functions with empty bodies.
 
-ghost use Rattle.lpt_apart.specs.Deeds.{KeptEndsKeepThePromise, ReadingsAreRestarts};
+ghost use Rattle.lpt_apart.specs.Deeds.{ReadingsAreRestarts};
 ghost use Rattle.lpt_apart.specs.Resets.{ResetEndsKeepThePromise, SendingsAreForgotten};
 
 /// An end that is read back from what was written of it is a restart of the one that was written,
@@ -12,15 +12,6 @@ ghost use Rattle.lpt_apart.specs.Resets.{ResetEndsKeepThePromise, SendingsAreFor
 /// read is the end as it last was.
 pub fn readings_are_restarts()
     ensures { ReadingsAreRestarts }
-{}
-
-/// Take two new ends of one configuration but for limits and the clocks that they begin with, and
-/// any list of moves of them, writings and readings back that can be done. Each large message that
-/// was released is the one last opened under its name at the other end, and once; each plain
-/// request is one that ground asked; and the memories are their first content, changed by the
-/// executed requests in order of release.
-pub fn kept_ends_keep_the_promise()
-    ensures { KeptEndsKeepThePromise }
 {}
 
 /// Take two new ends that were written, and any list of moves, writings and resets of either

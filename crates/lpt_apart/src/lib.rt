@@ -4,7 +4,7 @@
 //! step of one of them does and when it can happen. `specs/Facts` is the log of what happened, with
 //! what is promised of it, and `specs/Whole` says which parts came. In `specs/Moves` a name is
 //! freed at one end after the other, so that no call is of both. The main law is
-//! `laws::ends_apart_keep_the_promise`.
+//! `laws::ends_with_clocks_keep_the_promise`.
 //!
 //! `specs/Deeds` is about ends whose state is written down and read back, `specs/Lines` and
 //! `specs/Freeing` about programs that free names by lines of their own.

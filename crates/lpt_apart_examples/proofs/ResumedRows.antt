@@ -1,5 +1,5 @@
 -- The run in which a state is read back within other limits, computed by the definitions.
-use Rattle.std.proofs.Common.{◌≡◌, ◌∙◌, ap, sym, subst, refl, List, [], ◌∷◌, ◌++◌, map, reverse, Some, None, arith}
+use Rattle.std.proofs.Common.{◌≡◌, ◌∙◌, ap, sym, subst, refl, List, [], ◌∷◌, ◌++◌, map, reverse, Some, None, arith, inl, inr}
 use Rattle.std.specs.FinMap as maps
 use Rattle.std.specs.FinMap.{get-empty}
 use Rattle.std.proofs.lemmas.List.Elements.{All-nil}
@@ -23,44 +23,24 @@ use Rattle.lpt_node.specs.Nodes.{NodeData, is_open, no_data}
 use Rattle.lpt_node.specs.Restarts.{NoneOpen}
 use Rattle.lpt_state.specs.Lastings.{AreRuns, IsBoundAlike, IsEnd}
 use Rattle.lpt_apart.specs.Clocks.{CanAll, after_all}
-use Rattle.lpt_apart.specs.Deeds.{CanDoAll, Deed, IsKept, Kept, Make, ReadBack, Write, after_deeds, end_of, with_restart}
+use Rattle.lpt_apart.specs.Deeds.{end_of, with_restart}
 use Rattle.lpt_apart.specs.Ends.{Ends}
 use Rattle.lpt_apart.specs.Moves.{Pair, Move, Do, no_pair, pair_after, CanMove, came_to, CanMoveAll}
 use Rattle.lpt_apart.specs.Plays.{AllForward, steps_of, moves_of}
+use Rattle.lpt_apart.specs.Resets.{IsWritable, CanLiveAll, just_written}
 use Rattle.lpt_apart.specs.Steps as steps
+use Rattle.lpt_apart.specs.Steps.{MayCome}
 use Rattle.lpt_apart.specs.Told.{log_told}
 use Rattle.lpt_apart.proofs.Freely.{steps_are_moves}
 use Rattle.lpt_apart.proofs.Played.{worlds_are_ends}
-use Rattle.lpt_apart.proofs.Readings.{readings_are_restarts}
 use Rattle.lpt_journal_examples.specs.Passes.{IsPass, usual, usual_memories, m20, m9, own}
 use Rattle.lpt_journal_examples.proofs.LegalRows.{usual_pass}
 use Rattle.lpt_apart_examples.specs.Limits.{first_of_seven, first_of_eight}
-use Rattle.lpt_apart_examples.specs.Resumed.{narrow_config, resumed_deeds, resumed_log, unwritten}
+use Rattle.lpt_apart_examples.specs.Resumed.{moves_left, narrow_config, resumed_deeds, resumed_log, unwritten}
 use Rattle.lpt_apart_examples.proofs.LimitRows.{none_of}
 use Rattle.lpt_apart_examples.proofs.ListedSteps.{all_are_forward, steps_is, told_of}
 
--- ---- moves that deeds make
-
-abbrev makes : List Move → List Deed
-makes xs = map Make xs
-
--- moves that can be made behind deeds are deeds that can be done
-record AreMade (k : Kept) (bs : List Deed) (ys : List Move) : Type 0 where
-  can : CanDoAll usual k (makes ys ++ bs)
-  are : (after_deeds usual k (makes ys ++ bs)).pair
-      ≡ after_all usual (after_deeds usual k bs).pair ys
-
-made : (k : Kept) (bs : List Deed) (ys : List Move)
-    → CanDoAll usual k bs
-    → CanAll usual (after_deeds usual k bs).pair ys
-    → AreMade k bs ys
-made k bs [] can may = record { can = can; are = refl }
-made k bs (y ∷ ys) can may =
-    let rest = made k bs ys can may.0 in
-    record {
-      can = (rest.can, subst (λ (p : Pair). CanMove usual p y) (sym rest.are) may.1);
-      are = ap (λ (p : Pair). pair_after usual p y) rest.are;
-    }
+-- ---- moves
 
 came_all : (xs : List Move)
     → came_to usual usual_memories xs ≡ after_all usual (no_pair usual usual_memories) xs
@@ -73,19 +53,6 @@ can_all : (xs : List Move)
 can_all [] can = tt
 can_all (x ∷ xs) can =
     (can_all xs can.0, subst (λ (p : Pair). CanMove usual p x) (came_all xs) can.1)
-
-behind : (p : Pair) (ys zs : List Move)
-    → after_all usual p (ys ++ zs) ≡ after_all usual (after_all usual p zs) ys
-behind p [] zs = refl
-behind p (y ∷ ys) zs = ap (λ (q : Pair). pair_after usual q y) (behind p ys zs)
-
-can_behind : (p : Pair) (ys zs : List Move)
-    → CanAll usual p (ys ++ zs)
-    → CanAll usual p zs × CanAll usual (after_all usual p zs) ys
-can_behind p [] zs can = (can, tt)
-can_behind p (y ∷ ys) zs can =
-    let rest = can_behind p ys zs can.0 in
-    (rest.0, (rest.1, subst (λ (q : Pair). CanMove usual q y) (behind p ys zs) can.1))
 
 -- ---- a world that does the same
 
@@ -166,27 +133,51 @@ node_fits d sent received none boot clock = record {
   own_limits = refl;
 }
 
--- the deeds up to the writing, newest first, and the ends of them
-abbrev written : List Deed
-written = Write Craft ∷ makes before
+-- ---- the run
 
-is_kept : IsKept usual (after_deeds usual unwritten written) Craft
-is_kept = record {
-  same = refl;
-  is_end =
-      node_fits (after_deeds usual unwritten written).pair.ends.on_craft no_runs no_runs none_open
-      refl refl;
-  boot_left = omega arith;
-}
+-- what may come behind a restart could come before it
+came_before : (e : Ends) (b : List ℕ)
+    → MayCome usual (steps.after usual (steps.after usual e (steps.Restart Craft))
+    (steps.Tick Craft (Within (limits_of narrow_config)))) Up b
+    → MayCome usual e Up b
+came_before e b (inl it) = inl (record {
+  place = it.place;
+  packet = it.packet;
+  there = it.there;
+  goes = it.goes;
+  octets = it.octets;
+})
+came_before e b (inr harmless) = inr harmless
 
 bound : IsBoundAlike usual narrow_config
 bound = record { apid = refl; source = refl; part_size = refl; mode = refl }
 
--- ---- the run
+fits : IsWritable usual (after_all usual (no_pair usual usual_memories) before) Craft
+fits = record {
+  is_end =
+      node_fits (after_all usual (no_pair usual usual_memories) before).ends.on_craft no_runs
+      no_runs none_open refl refl;
+  boot_left = omega arith;
+}
+
+-- moves that can be made are deeds that can be done
+lives : CanAll usual (no_pair usual usual_memories)
+    (later ++ with_restart narrow_config Craft before)
+    → CanLiveAll usual (no_pair usual usual_memories) (just_written usual unwritten)
+    (reverse resumed_deeds)
+lives can =
+    let first = can.0.0.0.0.0.0.0.0.0 in
+    let deleted = came_before (after_all usual (no_pair usual usual_memories) before).ends
+    first_of_seven can.0.0.0.0.0.0.1 in
+    let left = (((first, fits), deleted), ((first, refl), bound)) in
+    let two = ((left, can.0.0.0.0.0.0.1), can.0.0.0.0.0.1) in
+    let ticked = ((two, can.0.0.0.0.1), can.0.0.0.1) in
+    (((ticked, can.0.0.1), can.0.1), can.1)
 
 pub record IsResumed : Type 0 where
-  pub can : CanDoAll usual unwritten (reverse resumed_deeds)
-  pub log : (after_deeds usual unwritten (reverse resumed_deeds)).pair.ends.log
+  pub can : CanLiveAll usual (no_pair usual usual_memories) (just_written usual unwritten)
+      (reverse resumed_deeds)
+  pub log : (after_all usual (no_pair usual usual_memories) moves_left).ends.log
       ≡ reverse resumed_log
 
 pub runs : IsResumed
@@ -194,27 +185,12 @@ runs =
     let es : List Act = reverse journal in
     let world = worlds_are_ends usual usual_memories es passes.configured forward passes.legal in
     let moves = steps_are_moves usual usual_memories (steps_of usual usual_memories es) world.can in
-    let p : Pair = no_pair usual usual_memories in
-    let zs : List Move = with_restart narrow_config Craft before in
-    let can : CanAll usual p (later ++ zs) =
-    can_all (later ++ zs)
-    (subst (λ (ms : List Move). CanMoveAll usual usual_memories ms) the_moves moves.can) in
-    let parts = can_behind p later zs can in
-    let first = made unwritten [] before tt parts.0.0.0 in
-    let read : List Deed = ReadBack Craft narrow_config ∷ written in
-    let read_is : (after_deeds usual unwritten read).pair ≡ after_all usual p zs =
-    readings_are_restarts usual narrow_config (after_deeds usual unwritten written) Craft is_kept
-    bound
-    ∙ ap (λ (q : Pair). after_all usual q (with_restart narrow_config Craft [])) first.are in
-    let then =
-    made unwritten read later ((first.can, tt), (is_kept, bound))
-    (subst (λ (q : Pair). CanAll usual q later) (sym read_is) parts.1) in
+    let left : List Move = later ++ with_restart narrow_config Craft before in
     record {
-      can = then.can;
+      can = lives (can_all left
+          (subst (λ (ms : List Move). CanMoveAll usual usual_memories ms) the_moves moves.can));
       log =
-          ap (λ (q : Pair). q.ends.log)
-          (then.are ∙ ap (λ (q : Pair). after_all usual q later) read_is
-          ∙ sym (behind p later zs) ∙ sym (came_all (later ++ zs)))
+          ap (λ (q : Pair). q.ends.log) (sym (came_all left))
           ∙ ap (λ (ms : List Move). (came_to usual usual_memories ms).ends.log) (sym the_moves)
           ∙ ap (λ (e : Ends). e.log) moves.ends ∙ sym world.are.log ∙ logged;
     }

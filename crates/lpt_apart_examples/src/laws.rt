@@ -9,14 +9,15 @@ ghost use Rattle.lpt_part.specs.declared.mode.Mode.TheVariants.{Strict};
 ghost use Rattle.lpt_state.specs.declared.fault.StateFault.TheVariants as fault;
 ghost use Rattle.lpt_state.specs.Spellings.{spelling};
 ghost use Rattle.lpt_state.specs.Verdicts.{verdict};
-ghost use Rattle.lpt_apart.specs.Deeds.{after_deeds, CanDoAll};
+ghost use Rattle.lpt_apart.specs.Clocks.{after_all};
 ghost use Rattle.lpt_apart.specs.Moves.{came_to, CanMoveAll};
+ghost use Rattle.lpt_apart.specs.Resets.{CanLiveAll, just_written};
 ghost use Rattle.lpt_apart.specs.Whole.{came_in, CameWhole};
 ghost use Rattle.lpt_journal_examples.specs.Passes.{own, m9, usual, usual_memories, loaded_memories};
 ghost use Rattle.lpt_apart_examples.specs.Late.{before_late, late_acts, late_moves, start, FreesTooEarly};
 ghost use Rattle.lpt_apart_examples.specs.Limits.{clock_moves, narrow_log, narrow_moves};
 ghost use Rattle.lpt_apart_examples.specs.Reports.{report_log, report_moves};
-ghost use Rattle.lpt_apart_examples.specs.Resumed.{resumed_deeds, resumed_log, unwritten};
+ghost use Rattle.lpt_apart_examples.specs.Resumed.{moves_left, resumed_deeds, resumed_log, unwritten};
 ghost use Rattle.lpt_apart_examples.specs.Runs.{worked_moves, worked_log};
 ghost use Rattle.lpt_apart_examples.specs.States.{config, mixed_state, mixed_octets, names_sent};
 ghost use Rattle.lpt_apart.specs.Freeing.{with_acts, CanActAll};
@@ -71,14 +72,15 @@ pub fn large_reports_go_down()
         ≡ reverse report_log }
 {}
 
-/// The state of the spacecraft's end is written, and read back in a configuration with a shorter
-/// timeout and with room for one reception. Then the first part of a message opens one, and that of
-/// another message has no room; the reception expires behind that timeout, and now there is room.
+/// The state of the spacecraft's end is written, and its machine reset, which deletes that it took a
+/// part. It is read back in a configuration with a shorter timeout and with room for one reception.
+/// Then the first part of a message opens one, and that of another message has no room; the
+/// reception expires behind that timeout, and now there is room.
 pub fn limits_change_at_a_reading()
     ensures configured { IsConfig usual }
-    ensures can { CanDoAll usual unwritten (reverse resumed_deeds) }
-    ensures log { (after_deeds usual unwritten (reverse resumed_deeds)).pair.ends.log
-        ≡ reverse resumed_log }
+    ensures can { CanLiveAll usual unwritten.pair (just_written usual unwritten)
+        (reverse resumed_deeds) }
+    ensures log { (after_all usual unwritten.pair moves_left).ends.log ≡ reverse resumed_log }
 {}
 
 /// A worked state has these octets, which were made outside, and they are read as it, at an end of

@@ -26,9 +26,9 @@ use Rattle.lpt_apart.specs.Clocks.{CanAll, after_all}
 use Rattle.lpt_apart.specs.Facts.{Asked, Left, Released, Restarted}
 use Rattle.lpt_apart.specs.Moves.{CanMove, Do}
 use Rattle.lpt_apart.specs.Steps.{Accept, with_report}
-use Rattle.lpt_apart.specs.Deeds.{CanDoAll, end_of}
+use Rattle.lpt_apart.specs.Deeds.{end_of}
 use Rattle.lpt_apart.specs.Resets.{IsWritable, just_written, CanLiveAll}
-use Rattle.lpt_c_pair.specs.Nodes.{NodesCanBe, deeds, lives, moves, new_pair, unwritten}
+use Rattle.lpt_c_pair.specs.Nodes.{NodesCanBe, lives, moves, new_pair, unwritten}
 use Rattle.lpt_c_pair.proofs.Computed.{asked, executes, no_runs, octets, opens_nothing, packet_is, with_jobs}
 use Rattle.lpt_journal_examples.specs.Passes.{load_packet, usual}
 
@@ -124,18 +124,6 @@ craft_fits =
 bound : IsBoundAlike usual usual
 bound = record { apid = refl; source = refl; part_size = refl; mode = refl }
 
-reads_back : CanDoAll usual unwritten deeds
-reads_back = (
-  (
-    (
-      ((((tt, can_move.0.0.0.0.1), can_move.0.0.0.1), can_move.0.0.1), can_move.0.1),
-      can_move.1,
-    ),
-    tt,
-  ),
-  (record { same = refl; is_end = craft_fits.is_end; boot_left = craft_fits.boot_left }, bound),
-)
-
 resets : CanLiveAll usual new_pair (just_written usual unwritten) lives
 resets = (
   (
@@ -162,7 +150,6 @@ unfolding packet_seen spelling checksum octets_in shift_all tc_field tc_verdict 
     tm_verdict body_of part_verdict arrival first_of_numbers front_load_area front_head request_in
     body_meaning meaning
 nodes_can_be = record {
-  read_back = reads_back;
   reset = resets;
   left = refl;
   log = λ i.

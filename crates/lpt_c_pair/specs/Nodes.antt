@@ -1,14 +1,12 @@
--- A worked run of two ends apart, with no handles: each is written, and the spacecraft's is read
--- back, and then reset.
+-- A worked run of two ends apart, with no handles: each is written, and the spacecraft's machine is
+-- reset.
 use Rattle.std.specs.Prelude.{◌≡◌, List, [], ◌∷◌}
 use Rattle.lpt_acts.specs.Acts.{Execute}
 use Rattle.lpt_apart.specs.Clocks.{after_all, no_pair_later}
 use Rattle.lpt_apart.specs.Moves.{Do, Move, Pair}
 use Rattle.lpt_apart.specs.Steps.{Accept, Apply, Claim, Commit, Plain}
-use Rattle.lpt_apart.specs.Deeds as kept
-use Rattle.lpt_apart.specs.Deeds.{Kept, CanDoAll, with_restart}
-use Rattle.lpt_apart.specs.Resets as reset
-use Rattle.lpt_apart.specs.Resets.{CanLiveAll, just_written, lived_all}
+use Rattle.lpt_apart.specs.Deeds.{Kept, with_restart}
+use Rattle.lpt_apart.specs.Resets.{CanLiveAll, Deed, Make, Reset, Write, just_written, lived_all}
 use Rattle.lpt_c_pair.specs.Called.{called_log, usual_own}
 use Rattle.lpt_events.specs.declared.side.Side.TheVariants.{Ground, Craft}
 use Rattle.lpt_events.specs.declared.worker.Worker.TheVariants.{W1}
@@ -38,36 +36,23 @@ moves =
     ∷ Do (Plain 1 0 6 2 load)
     ∷ []
 
--- the same, after which the spacecraft's end is written and read back
-abbrev pub deeds : List kept.Deed
-deeds =
-    kept.ReadBack Craft usual
-    ∷ kept.Write Craft
-    ∷ kept.Make (Do (Apply Execute))
-    ∷ kept.Make (Do (Commit W1))
-    ∷ kept.Make (Do (Claim W1))
-    ∷ kept.Make (Do (Accept Up load_packet))
-    ∷ kept.Make (Do (Plain 1 0 6 2 load))
-    ∷ []
-
 -- the same, but that both are written in time, and the spacecraft's machine is reset when the
 -- packet has come once more: that is deleted
-abbrev pub lives : List reset.Deed
+abbrev pub lives : List Deed
 lives =
-    reset.Reset Craft usual
-    ∷ reset.Make (Do (Accept Up load_packet))
-    ∷ reset.Write Craft
-    ∷ reset.Make (Do (Apply Execute))
-    ∷ reset.Make (Do (Commit W1))
-    ∷ reset.Make (Do (Claim W1))
-    ∷ reset.Make (Do (Accept Up load_packet))
-    ∷ reset.Write Ground
-    ∷ reset.Make (Do (Plain 1 0 6 2 load))
+    Reset Craft usual
+    ∷ Make (Do (Accept Up load_packet))
+    ∷ Write Craft
+    ∷ Make (Do (Apply Execute))
+    ∷ Make (Do (Commit W1))
+    ∷ Make (Do (Claim W1))
+    ∷ Make (Do (Accept Up load_packet))
+    ∷ Write Ground
+    ∷ Make (Do (Plain 1 0 6 2 load))
     ∷ []
 
--- both can be done; what is left of the second are the moves and a start; and what they come to
+-- it can be done; what is left of it are the moves and a start; and what they come to
 pub record NodesCanBe : Type 0 where
-  pub read_back : CanDoAll usual unwritten deeds
   pub reset : CanLiveAll usual new_pair (just_written usual unwritten) lives
   pub left : (lived_all usual (just_written usual unwritten) lives).moves
       ≡ with_restart usual Craft moves

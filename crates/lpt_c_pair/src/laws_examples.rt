@@ -51,9 +51,9 @@ pub fn written_can_be_taken_back()
     ensures { WrittenCanBeTakenBack }
 {}
 
-/// Two nodes with no handles do the same as `calls_can_be` says. The spacecraft's is written and
-/// read back; and its machine is reset when the packet has come once more, with both written in
-/// time. What is left are the same moves.
+/// Two nodes with no handles do the same as `calls_can_be` says. Both are written in time, and the
+/// spacecraft's machine is reset when the packet has come once more. What is left are the same
+/// moves.
 pub fn nodes_can_be()
     ensures { NodesCanBe }
 {}
