@@ -16,8 +16,8 @@ TOP = pathlib.Path(__file__).resolve().parent.parent
 
 # The statements of the theorems that README cites, in its order.
 THEOREMS = [
-    ("lpt_apart", "Clocks", "EndsWithClocksKeepThePromise"),
-    ("lpt_apart", "Whole", "EndsWithClocksWithholdNothing"),
+    ("lpt_apart", "TwoEnds", "EndsWithClocksKeepThePromise"),
+    ("lpt_apart", "TwoEnds", "EndsWithClocksWithholdNothing"),
     ("lpt_c_pair", "Runs", "EndsOfCKeepThePromise"),
     ("lpt_c_pair", "Programs", "ProgramsKeepTheirMemories"),
     ("lpt_c_pair", "Withheld", "EndsOfCWithholdNothing"),

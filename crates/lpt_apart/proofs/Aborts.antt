@@ -23,8 +23,7 @@ use Rattle.lpt_journal.specs.Replies.{history_after}
 use Rattle.lpt_journal.specs.Senders.{sender, sender_of, current, is_over}
 use Rattle.lpt_journal.proofs.HeadlineLemmas.{every}
 use Rattle.lpt_journal.specs.Whole.{came}
-use Rattle.lpt_apart.specs.Ends.{PutOut, with_node}
-use Rattle.lpt_apart.specs.Facts.{Log}
+use Rattle.lpt_apart.specs.Ends.{PutOut, with_node, Log}
 use Rattle.lpt_apart.proofs.Events.{finish}
 use Rattle.lpt_apart.proofs.Ties.{ends_of, IsTied, Came, Leads}
 

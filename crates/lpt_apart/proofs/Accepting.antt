@@ -28,11 +28,9 @@ use Rattle.lpt_journal.specs.Journal.{History}
 use Rattle.lpt_journal.specs.Legal.{Legal}
 use Rattle.lpt_journal.specs.Replies.{history_after}
 use Rattle.lpt_journal.specs.Whole.{came}
-use Rattle.lpt_apart.specs.Ends.{PutOut, Ends, node_at}
-use Rattle.lpt_apart.specs.Facts.{Log}
-use Rattle.lpt_apart.specs.Steps.{is_harmless, CanHappen, with_release, accepted_on}
-use Rattle.lpt_apart.specs.Steps as steps
-use Rattle.lpt_apart.specs.Whole.{came_by, came_after}
+use Rattle.lpt_apart.specs.Ends.{PutOut, Ends, node_at, Log, with_release, accepted_on}
+use Rattle.lpt_apart.specs.TwoEnds.{is_harmless, CanHappen, came_by, came_after}
+use Rattle.lpt_apart.specs.Ends as steps
 use Rattle.lpt_apart.proofs.Aborts.{closed_up, closed_down}
 use Rattle.lpt_apart.proofs.Links.{IsHeldAs, held_at, put_held, put_hands}
 use Rattle.lpt_apart.proofs.Telling.{delivery_told, delivery_came}

@@ -38,7 +38,7 @@ use Rattle.lpt_journal.proofs.OctetLemmas.{request_is}
 use Rattle.lpt_journal.proofs.Soundness.{in_hand_is}
 use Rattle.lpt_journal.proofs.Steps.{IsPut}
 use Rattle.lpt_journal.proofs.TestLemmas.{one_passes, IsOldOrNew, with_all_cases, no_place}
-use Rattle.lpt_apart.specs.Facts.{Fact, Asked, Log, with_abortion}
+use Rattle.lpt_apart.specs.Ends.{Fact, Asked, Log, with_abortion}
 use Rattle.lpt_apart.specs.Told.{with_openings, with_releases, with_ended, with_asked, with_event, log_told}
 
 -- ---- a log that grows

@@ -31,7 +31,8 @@ use Rattle.lpt_journal.specs.Replies.{expired_now, history_after, entry, opens, 
 use Rattle.lpt_journal.specs.Senders.{is_opening_of, current}
 use Rattle.lpt_journal.proofs.HeadlineLemmas.{every, owes}
 use Rattle.lpt_packet.proofs.BoolLemmas.{and_left, and_right}
-use Rattle.lpt_apart.specs.Facts.{Asked, Released, Log, with_abortion, is_of_it, message_awaited}
+use Rattle.lpt_apart.specs.Ends.{Asked, Released, Log, with_abortion}
+use Rattle.lpt_apart.specs.TwoEnds.{is_of_it, message_awaited}
 use Rattle.lpt_apart.specs.Told.{with_openings, with_releases, with_ended, with_asked, log_told}
 use Rattle.lpt_events.proofs.LaneLemmas.{same_direction-true}
 use Rattle.lpt_reception.specs.Received.{Parts}

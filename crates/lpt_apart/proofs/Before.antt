@@ -16,9 +16,7 @@ use Rattle.lpt_node.specs.Times.{expired_of, which_ends}
 use Rattle.lpt_journal.proofs.CountLemmas.{same_name-comm}
 use Rattle.lpt_model.specs.State.{as_list, job_left}
 use Rattle.lpt_model.specs.Tickets.{ticket_of}
-use Rattle.lpt_apart.specs.Ends.{Ends, PutOut, is_part, node_at, put_out, with_node, without}
-use Rattle.lpt_apart.specs.Facts.{is_same}
-use Rattle.lpt_apart.specs.Steps.{Accept, Apply, Claim, Commit, Expire, Finish, Open, Plain, Restart, Retire, Send, Step, Tick, after, committed_on}
+use Rattle.lpt_apart.specs.Ends.{Ends, PutOut, is_part, node_at, put_out, with_node, without, is_same, Accept, Apply, Claim, Commit, Expire, Finish, Open, Plain, Restart, Retire, Send, Step, Tick, after, committed_on}
 use Rattle.lpt_apart.specs.Freeing.{IsOwn}
 use Rattle.lpt_apart.proofs.Ways.{There, same_direction-comm, same_ways}
 

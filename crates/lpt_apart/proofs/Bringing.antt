@@ -21,11 +21,11 @@ use Rattle.lpt_journal.specs.Journal.{History}
 use Rattle.lpt_journal.specs.Legal.{Legal}
 use Rattle.lpt_journal.specs.Replies.{history_after}
 use Rattle.lpt_journal.specs.Whole as journal
-use Rattle.lpt_apart.specs.Ends.{Ends, node_at}
-use Rattle.lpt_apart.specs.Facts.{is_same}
+use Rattle.lpt_apart.specs.Ends.{Ends, node_at, is_same, Step, Retire}
+use Rattle.lpt_apart.specs.TwoEnds.{came_by, is_reported, came_after}
+use Rattle.lpt_apart.specs.Worlds.{ends_reached}
+use Rattle.lpt_apart.specs.Whole.{came, WorldsBringTheSame, MovesBringTheSame}
 use Rattle.lpt_apart.specs.Plays.{octets_held, step_of, with_step, steps_of, AreEndsOf}
-use Rattle.lpt_apart.specs.Steps.{Step, Retire, ends_reached}
-use Rattle.lpt_apart.specs.Whole.{came_by, is_reported, came_after, came, WorldsBringTheSame, MovesBringTheSame}
 use Rattle.lpt_apart.proofs.Events.{open_came}
 use Rattle.lpt_apart.proofs.Freely.{steps_are_moves}
 use Rattle.lpt_apart.proofs.Played.{worlds_are_ends}

@@ -12,12 +12,10 @@ use Rattle.lpt_events.specs.declared.side.Side.TheVariants.{Ground, Craft}
 use Rattle.lpt_node.specs.declared.fault.NodeFault.TheVariants.{ClockEnd}
 use Rattle.lpt_node.specs.Nodes.{no_data}
 use Rattle.lpt_node.specs.Restarts.{node_within}
-use Rattle.lpt_apart.specs.Clocks.{Own, later, own_config, no_pair_later, after_all, CanAll, EndsWithClocksKeepThePromise}
-use Rattle.lpt_apart.specs.Ends.{no_ends}
-use Rattle.lpt_apart.specs.Moves.{Pair, Move, Do, no_pair, pair_after, CanMove, came_to, CanMoveAll}
-use Rattle.lpt_apart.specs.Steps.{Tick}
-use Rattle.lpt_apart.specs.Worlds.{IsPromised}
-use Rattle.lpt_apart.specs.Whole.{came_moved, came_in, came_since, CameWhole, last_opened, is_aborted, last_released, EndsWithClocksWithholdNothing, WithholdsNothing}
+use Rattle.lpt_apart.specs.Ends.{after_all, no_ends, Pair, Move, Do, no_pair, pair_after, Tick}
+use Rattle.lpt_apart.specs.TwoEnds.{Own, later, own_config, no_pair_later, CanAll, EndsWithClocksKeepThePromise, CanMove, IsPromised, came_moved, came_since, CameWhole, last_opened, is_aborted, last_released, EndsWithClocksWithholdNothing, WithholdsNothing}
+use Rattle.lpt_apart.specs.Moves.{came_to, CanMoveAll}
+use Rattle.lpt_apart.specs.Whole.{came_in}
 use Rattle.lpt_apart.proofs.Moving.{ends_apart_keep_the_promise, ends_apart_withhold_nothing}
 use Rattle.lpt_apart.proofs.Ties.{Came}
 use Rattle.lpt_acts.specs.Acts.{Limits, On, Within}

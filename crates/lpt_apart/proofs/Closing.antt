@@ -38,11 +38,11 @@ use Rattle.lpt_ledger.proofs.ClosingLemmas.{state_at-all_closed}
 use Rattle.lpt_ledger.proofs.FirstLemmas.{IsLeastFree-least_free_in}
 use Rattle.lpt_packet.proofs.NameLemmas.{same_name-true}
 use Rattle.lpt_journal.proofs.MapLemmas.{get_insert, get_remove}
-use Rattle.lpt_apart.specs.Ends.{Ends, node_at, with_node}
+use Rattle.lpt_apart.specs.Ends.{Ends, node_at, with_node, Step, Open, Send, Plain, Finish, Accept, Tick, Expire, Claim, Commit, Apply, Retire, Restart, committed_on, after}
+use Rattle.lpt_apart.specs.TwoEnds.{CanHappen}
 use Rattle.lpt_apart.proofs.Fewer.{offer, all_parts, made_of, parted_is}
 use Rattle.lpt_apart.proofs.Lessening.{committed_by, report_ledger}
 use Rattle.lpt_apart.proofs.Offers.{offer_sending}
-use Rattle.lpt_apart.specs.Steps.{Step, Open, Send, Plain, Finish, Accept, Tick, Expire, Claim, Commit, Apply, Retire, Restart, CanHappen, committed_on, after}
 use Rattle.lpt_acts.specs.Acts.{Leaving, Execute, Refuse, Drop, On, Back, Within}
 
 -- ---- ledgers

@@ -1,10 +1,7 @@
 -- What a machine did and didn't write can be deleted from what was done.
 use Rattle.std.proofs.Common.{◌≡◌, ◌∙◌, ap, sym, subst, refl, ℕ, ◌+◌, ◌<◌, ◌^◌, List, [], ◌∷◌, Result, Ok}
-use Rattle.lpt_apart.specs.Clocks.{CanAll, after_all, no_pair_later}
-use Rattle.lpt_apart.specs.Ends.{node_at}
-use Rattle.lpt_apart.specs.Moves.{CanMove, Move, Pair, pair_after}
-use Rattle.lpt_apart.specs.Whole.{came_since, WithholdsNothing}
-use Rattle.lpt_apart.specs.Worlds.{IsPromised}
+use Rattle.lpt_apart.specs.Ends.{after_all, node_at, Move, Pair, pair_after}
+use Rattle.lpt_apart.specs.TwoEnds.{CanAll, no_pair_later, CanMove, came_since, WithholdsNothing, IsPromised}
 use Rattle.lpt_apart.proofs.Clocks.{begun_later, ends_with_clocks_withhold_nothing, joined, reached_keep}
 use Rattle.lpt_acts.specs.Acts.{limits_of}
 use Rattle.lpt_apart.specs.Deeds.{end_of, with_memories, with_read}

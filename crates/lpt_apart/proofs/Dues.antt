@@ -29,7 +29,8 @@ use Rattle.lpt_journal.proofs.AbortionOwed.{owes_abortion}
 use Rattle.lpt_journal.proofs.HeadlineLemmas.{every, owes_releases}
 use Rattle.lpt_journal.proofs.Releasing.{OwesReleases}
 use Rattle.lpt_journal.proofs.TestLemmas.{two_pass}
-use Rattle.lpt_apart.specs.Facts.{Asked, Released, Aborted, Left, Log, waiting, IsDue, AllDue}
+use Rattle.lpt_apart.specs.Ends.{Asked, Released, Aborted, Left, Log}
+use Rattle.lpt_apart.specs.TwoEnds.{waiting, IsDue, AllDue}
 use Rattle.lpt_apart.specs.Told.{with_openings, with_releases, with_ended, with_asked, with_event, log_told}
 use Rattle.lpt_apart.proofs.Asking.{release_asked}
 use Rattle.lpt_apart.proofs.Awaiting.{awaited_releases, is_awaited}

@@ -33,13 +33,11 @@ use Rattle.lpt_refinement.specs.Views.{views}
 use Rattle.lpt_events.specs.declared.entry.Opening.{Opening}
 use Rattle.lpt_journal.specs.Replies.{history_after}
 use Rattle.lpt_journal.specs.Whole.{came}
-use Rattle.lpt_apart.specs.Ends.{PutOut, put_out}
-use Rattle.lpt_apart.specs.Facts.{Opened, Asked, Aborted, Left, Restarted, Log, is_same}
-use Rattle.lpt_apart.specs.Steps.{CanHappen, with_report}
-use Rattle.lpt_apart.specs.Steps as steps
-use Rattle.lpt_apart.specs.Told.{log_told}
-use Rattle.lpt_apart.specs.Whole.{came_after}
+use Rattle.lpt_apart.specs.Ends.{PutOut, put_out, Opened, Asked, Aborted, Left, Restarted, Log, is_same, with_report}
+use Rattle.lpt_apart.specs.TwoEnds.{CanHappen, came_after}
 use Rattle.lpt_apart.specs.Worlds.{IsEventStep, IsOfAnEvent, IsReadyNode}
+use Rattle.lpt_apart.specs.Ends as steps
+use Rattle.lpt_apart.specs.Told.{log_told}
 use Rattle.lpt_apart.proofs.Links.{AllHeld, put_held, put_hands}
 use Rattle.lpt_apart.proofs.Telling.{plain_told, expiry_told, leaving_told, leaving_opens}
 use Rattle.lpt_apart.proofs.Ties.{ends_of, IsTied, Came, Leads, longer}

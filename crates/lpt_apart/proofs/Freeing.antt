@@ -25,9 +25,8 @@ use Rattle.lpt_node.specs.Times.{which_ends}
 use Rattle.lpt_table.specs.Tables.{Entries}
 use Rattle.lpt_model.specs.State.{job_left}
 use Rattle.lpt_model.specs.Tickets.{ticket_of}
-use Rattle.lpt_apart.specs.Ends.{Ends}
-use Rattle.lpt_apart.specs.Steps.{Step, Open, Send, Plain, Finish, Accept, Tick, Expire, Claim, Commit, Apply, Retire, Restart, CanHappen, after, sent_on, accepted_on, expired_on, claimed_on, committed_on, left_on}
-use Rattle.lpt_apart.specs.Whole.{came_by, is_reported, came_after}
+use Rattle.lpt_apart.specs.Ends.{Ends, Step, Open, Send, Plain, Finish, Accept, Tick, Expire, Claim, Commit, Apply, Retire, Restart, after, sent_on, accepted_on, expired_on, claimed_on, committed_on, left_on}
+use Rattle.lpt_apart.specs.TwoEnds.{CanHappen, came_by, is_reported, came_after}
 use Rattle.lpt_apart.specs.Worlds.{IsEventStep}
 use Rattle.lpt_apart.specs.Moves.{with_ledger, with_ledgers, KnowsLess}
 use Rattle.lpt_apart.proofs.Lessening.{sent_less, sent_receiving, claimed_less, claimed_receiving, committed_less, committed_receiving, left_less, left_receiving}

@@ -8,11 +8,11 @@ use Rattle.lpt_packet.specs.Names.{Name}
 use Rattle.lpt_packet.proofs.NameLemmas.{same_name-refl}
 use Rattle.lpt_memory.specs.Memories.{Contents}
 use Rattle.lpt_events.specs.declared.config.Config.{Config}
-use Rattle.lpt_apart.specs.Ends.{PutOut, Ends, is_part, without}
-use Rattle.lpt_apart.specs.Facts.{is_same}
-use Rattle.lpt_apart.specs.Moves.{Pair, Move, Do, Free, pair_after, CanMove, came_to, CanMoveAll}
+use Rattle.lpt_apart.specs.Ends.{PutOut, Ends, is_part, without, is_same, Pair, Move, Do, Free, pair_after, Step, Retire, retired_on, after}
+use Rattle.lpt_apart.specs.TwoEnds.{CanMove, CanHappen}
+use Rattle.lpt_apart.specs.Worlds.{ends_reached, CanRun}
+use Rattle.lpt_apart.specs.Moves.{came_to, CanMoveAll}
 use Rattle.lpt_apart.specs.Plays.{moves_of, StepsAreMoves}
-use Rattle.lpt_apart.specs.Steps.{Step, Retire, CanHappen, retired_on, after, ends_reached, CanRun}
 use Rattle.lpt_apart.proofs.Closing.{IsNoRetirement}
 use Rattle.lpt_events.proofs.LaneLemmas.{same_direction-refl}
 

@@ -10,10 +10,8 @@ use Rattle.lpt_events.specs.Lanes.{same_direction}
 use Rattle.lpt_events.specs.declared.config.Config.{Config}
 use Rattle.lpt_events.specs.declared.event.Event.TheVariants as event
 use Rattle.lpt_journal.proofs.CountLemmas.{same_name-comm}
-use Rattle.lpt_apart.specs.Ends.{is_part}
-use Rattle.lpt_apart.specs.Facts.{is_same}
-use Rattle.lpt_apart.specs.Moves.{Pair, Move, Do, Free, freed_by, retired_by, pair_after, CanMove}
-use Rattle.lpt_apart.specs.Steps.{Step, Retire, CanHappen, after}
+use Rattle.lpt_apart.specs.Ends.{is_part, is_same, Pair, Move, Do, Free, freed_by, retired_by, pair_after, Step, Retire, after}
+use Rattle.lpt_apart.specs.TwoEnds.{CanMove, CanHappen}
 use Rattle.lpt_apart.proofs.Closing.{IsNoRetirement, IsShut, closed_stays, kept_removed}
 use Rattle.lpt_apart.specs.Lines.{Line, Part, Packet, Finished, Freed, sends, receives}
 use Rattle.lpt_apart.proofs.Turns.{InTurn, IsFirst, of_same, receives_freed, receives_other, sends_freed, sends_other, sends_step}

@@ -8,9 +8,8 @@ use Rattle.lpt_events.specs.declared.config.Config.{Config}
 use Rattle.lpt_events.specs.declared.side.Side.{Side}
 use Rattle.lpt_events.specs.declared.side.Side.TheVariants.{Ground, Craft}
 use Rattle.lpt_acts.specs.Acts.{Within, limits_of}
-use Rattle.lpt_apart.specs.Clocks.{after_all}
-use Rattle.lpt_apart.specs.Moves.{CanMove, Do, Move, Pair, pair_after}
-use Rattle.lpt_apart.specs.Steps.{Accept, Retire, Restart, Send, Step, Tick}
+use Rattle.lpt_apart.specs.Ends.{after_all, Do, Move, Pair, pair_after, Accept, Retire, Restart, Send, Step, Tick}
+use Rattle.lpt_apart.specs.TwoEnds.{CanMove}
 use Rattle.lpt_apart.specs.Deeds.{with_restart}
 use Rattle.lpt_apart.specs.Resets.{Lived, Reset, Write, left_without, lived_after, move_made, made_forgotten, side_of}
 use Rattle.lpt_apart.specs.Freeing.{IsOwn, part_line}

@@ -1,9 +1,7 @@
 -- A move is of one end alone: what it makes of that end it makes of it whatever the other is, and
 -- it leaves the other as it is.
 use Rattle.std.proofs.Common.{◌≡◌, ap, refl, [], false, Option, Some, None}
-use Rattle.lpt_apart.specs.Ends.{Ends}
-use Rattle.lpt_apart.specs.Moves.{Do, Free, Move, Pair, pair_after}
-use Rattle.lpt_apart.specs.Steps.{Accept, Apply, Claim, Commit, Expire, Finish, Open, Plain, Restart, Retire, Send, Tick, committed_on}
+use Rattle.lpt_apart.specs.Ends.{Ends, Do, Free, Move, Pair, pair_after, Accept, Apply, Claim, Commit, Expire, Finish, Open, Plain, Restart, Retire, Send, Tick, committed_on}
 use Rattle.lpt_apart.specs.Resets.{side_of}
 use Rattle.lpt_events.specs.declared.config.Config.{Config}
 use Rattle.lpt_events.specs.declared.side.Side.TheVariants.{Ground, Craft}

@@ -13,10 +13,9 @@ use Rattle.lpt_model.specs.State.{add_opening, add_release, released_of, put_som
 use Rattle.lpt_journal.specs.Journal.{with_all}
 use Rattle.lpt_journal.specs.Senders.{is_opening_of}
 use Rattle.lpt_refinement.proofs.LinkShown.{with_all-append}
-use Rattle.lpt_apart.specs.Facts.{Log, is_same}
-use Rattle.lpt_apart.specs.Steps.{with_release, with_report}
+use Rattle.lpt_apart.specs.Ends.{Log, is_same, with_release, with_report}
+use Rattle.lpt_apart.specs.TwoEnds.{is_reported}
 use Rattle.lpt_apart.specs.Told.{with_openings, with_releases}
-use Rattle.lpt_apart.specs.Whole.{is_reported}
 
 -- what stands behind a list is determined by the whole
 same_rest : {A : Type 0} (xs ys zs : List A) → xs ++ ys ≡ xs ++ zs → ys ≡ zs

@@ -19,9 +19,7 @@ use Rattle.lpt_node.specs.Requests.{plain_made}
 use Rattle.lpt_node.specs.Times.{expired_of, which_ends}
 use Rattle.lpt_model.specs.State.{as_list, job_left}
 use Rattle.lpt_model.specs.Tickets.{ticket_of}
-use Rattle.lpt_apart.specs.Ends.{Ends, PutOut, put_out, is_part, without}
-use Rattle.lpt_apart.specs.Moves.{Do, Free, Move, Pair, pair_after}
-use Rattle.lpt_apart.specs.Steps.{Accept, Apply, Claim, Commit, Expire, Finish, Open, Plain, Restart, Retire, Send, Tick, committed_on}
+use Rattle.lpt_apart.specs.Ends.{Ends, PutOut, put_out, is_part, without, Do, Free, Move, Pair, pair_after, Accept, Apply, Claim, Commit, Expire, Finish, Open, Plain, Restart, Retire, Send, Tick, committed_on}
 use Rattle.lpt_apart.specs.Resets.{side_of}
 use Rattle.lpt_apart.proofs.GroundReports.{none_of_delivery, none_of_expiry}
 use Rattle.lpt_apart.proofs.Local.{aboard}

@@ -14,12 +14,10 @@ use Rattle.lpt_jobs.specs.Jobs.{head_of, Ready}
 use Rattle.lpt_ledger.specs.Marks.{Marks}
 use Rattle.lpt_packet.proofs.BoolLemmas.{and_right, none_is}
 use Rattle.lpt_journal.specs.Jobs.{left_by}
-use Rattle.lpt_apart.specs.Ends.{Ends, no_ends}
-use Rattle.lpt_apart.specs.Facts.{AllDue, requests_executed as executed_in, waiting}
-use Rattle.lpt_apart.specs.Steps.{Accept, Retire, after}
-use Rattle.lpt_apart.specs.Worlds.{IsPromised}
-use Rattle.lpt_apart.specs.Whole.{came_moved, came_in, WithholdsNothing}
-use Rattle.lpt_apart.specs.Moves.{AreEventMoves, IsEventMove, Pair, Move, Do, Free, pair_after, CanMove, came_to, CanMoveAll, with_ledgers, EndsApartAreAWorld}
+use Rattle.lpt_apart.specs.Ends.{Ends, no_ends, Accept, Retire, after, Pair, Move, Do, Free, pair_after}
+use Rattle.lpt_apart.specs.TwoEnds.{AllDue, requests_executed as executed_in, waiting, IsPromised, came_moved, WithholdsNothing, CanMove}
+use Rattle.lpt_apart.specs.Moves.{AreEventMoves, IsEventMove, came_to, CanMoveAll, with_ledgers, EndsApartAreAWorld}
+use Rattle.lpt_apart.specs.Whole.{came_in}
 use Rattle.lpt_apart.proofs.Promise.{promised}
 use Rattle.lpt_apart.proofs.Withheld.{withholds_nothing}
 use Rattle.lpt_apart.proofs.Stepping.{leads_off, lead_on, is_a_world}

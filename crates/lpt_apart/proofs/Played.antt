@@ -25,11 +25,10 @@ use Rattle.lpt_journal.specs.Replies.{history_after}
 use Rattle.lpt_refinement.proofs.Follows.{follows}
 use Rattle.lpt_journal.proofs.TestLemmas.{no_place}
 use Rattle.lpt_packet.proofs.BoolLemmas.{and_left, and_right, not_true}
-use Rattle.lpt_apart.specs.Ends.{PutOut, Ends, put_out, without}
-use Rattle.lpt_apart.specs.Facts.{Aborted, Left, Retired, Restarted, Log}
+use Rattle.lpt_apart.specs.Ends.{PutOut, Ends, put_out, without, Aborted, Left, Retired, Restarted, Log, Step, with_report}
+use Rattle.lpt_apart.specs.Worlds.{ends_reached, CanRun}
 use Rattle.lpt_apart.specs.Plays.{step_of, with_step, steps_of, WorldsAreEnds, AllForward, IsForward}
-use Rattle.lpt_apart.specs.Steps.{Step, with_report, ends_reached, CanRun}
-use Rattle.lpt_apart.specs.Steps as steps
+use Rattle.lpt_apart.specs.Ends as steps
 use Rattle.lpt_apart.specs.Told.{log_told}
 use Rattle.lpt_apart.proofs.Leaving.{AllHad, had_put, had_lost, had_retired}
 use Rattle.lpt_apart.proofs.Telling.{expiry_told, leaving_told}

@@ -29,11 +29,10 @@ use Rattle.lpt_journal.specs.Legal.{Legal}
 use Rattle.lpt_journal.specs.Link.{sent as sent_so_far}
 use Rattle.lpt_journal.specs.Replies.{history_after}
 use Rattle.lpt_journal.proofs.HeadlineLemmas.{every}
-use Rattle.lpt_apart.specs.Ends.{PutOut, Ends}
-use Rattle.lpt_apart.specs.Facts.{Log}
+use Rattle.lpt_apart.specs.Ends.{PutOut, Ends, Log, Step}
+use Rattle.lpt_apart.specs.TwoEnds.{CanHappen}
 use Rattle.lpt_apart.specs.Plays.{octets_held}
-use Rattle.lpt_apart.specs.Steps.{Step, CanHappen}
-use Rattle.lpt_apart.specs.Steps as steps
+use Rattle.lpt_apart.specs.Ends as steps
 use Rattle.lpt_apart.specs.Told.{log_told}
 use Rattle.lpt_apart.proofs.Leaving.{AllHad}
 use Rattle.lpt_apart.proofs.Ties.{ends_of}

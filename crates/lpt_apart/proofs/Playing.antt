@@ -25,10 +25,9 @@ use Rattle.lpt_journal.specs.Journal.{History}
 use Rattle.lpt_journal.specs.Legal.{Legal}
 use Rattle.lpt_journal.specs.Replies.{history_after}
 use Rattle.lpt_journal.proofs.HeadlineLemmas.{every, owes}
-use Rattle.lpt_apart.specs.Ends.{PutOut, Ends, put_out}
-use Rattle.lpt_apart.specs.Facts.{Opened, Asked, Log, with_abortion}
+use Rattle.lpt_apart.specs.Ends.{PutOut, Ends, put_out, Opened, Asked, Log, with_abortion, with_release, accepted_on}
+use Rattle.lpt_apart.specs.TwoEnds.{is_harmless, MayCome}
 use Rattle.lpt_apart.specs.Plays.{octets_held, step_of}
-use Rattle.lpt_apart.specs.Steps.{is_harmless, MayCome, with_release, accepted_on}
 use Rattle.lpt_apart.specs.Told.{log_told}
 use Rattle.lpt_apart.proofs.Leaving.{IsHad, AllHad, out_at, had_one, had_put, had_taken, had_dropped}
 use Rattle.lpt_apart.proofs.Telling.{plain_told, delivery_told}

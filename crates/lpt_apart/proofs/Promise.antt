@@ -14,9 +14,9 @@ use Rattle.lpt_journal.specs.Replies.{history_after}
 use Rattle.lpt_node.specs.Nodes.{NodeData}
 use Rattle.lpt_refinement.specs.Shows.{job_shown, jobs_from}
 use Rattle.lpt_refinement.specs.Views.{JobsView, jobs_view}
-use Rattle.lpt_apart.specs.Ends.{Ends}
-use Rattle.lpt_apart.specs.Facts.{AllDue, requests_executed, waiting, Log}
-use Rattle.lpt_apart.specs.Worlds.{IsAWorld, IsPromised}
+use Rattle.lpt_apart.specs.Ends.{Ends, Log}
+use Rattle.lpt_apart.specs.TwoEnds.{AllDue, requests_executed, waiting, IsPromised}
+use Rattle.lpt_apart.specs.Worlds.{IsAWorld}
 use Rattle.lpt_apart.proofs.Dues.{all_due}
 use Rattle.lpt_apart.proofs.Queues.{executed_told, message_of, waiting_told}
 

@@ -25,7 +25,8 @@ use Rattle.lpt_journal.specs.Releases.{released_by}
 use Rattle.lpt_journal.specs.Replies.{answer, history_after, entry}
 use Rattle.lpt_refinement.proofs.LinkShown.{with_all-append}
 use Rattle.lpt_journal.proofs.TicketSteps.{jobs_sound}
-use Rattle.lpt_apart.specs.Facts.{Released, Log, with_abortion, waiting, requests_executed}
+use Rattle.lpt_apart.specs.Ends.{Released, Log, with_abortion}
+use Rattle.lpt_apart.specs.TwoEnds.{waiting, requests_executed}
 use Rattle.lpt_apart.specs.Told.{with_openings, with_releases, with_ended, log_told}
 use Rattle.lpt_packet.specs.Names.{Name}
 

@@ -8,9 +8,7 @@ use Rattle.lpt_events.specs.Sides.{sender_side}
 use Rattle.lpt_events.specs.declared.config.Config.{Config}
 use Rattle.lpt_events.specs.declared.side.Side.{Side}
 use Rattle.lpt_events.specs.declared.side.Side.TheVariants.{Ground, Craft}
-use Rattle.lpt_apart.specs.Clocks.{after_all}
-use Rattle.lpt_apart.specs.Moves.{Do, Move, Pair}
-use Rattle.lpt_apart.specs.Steps.{Accept, Finish, Plain, Send, Step}
+use Rattle.lpt_apart.specs.Ends.{after_all, Do, Move, Pair, Accept, Finish, Plain, Send, Step}
 use Rattle.lpt_apart.specs.Deeds.{Kept}
 use Rattle.lpt_apart.specs.Resets.{CanLiveAll, Deed, Lived, Make, just_written, left_without, made_forgotten, side_of}
 use Rattle.lpt_apart.specs.Resets as kept

@@ -23,10 +23,9 @@ use Rattle.lpt_node.specs.Nodes.{NodeData}
 use Rattle.lpt_model.specs.State.{State, after, end_of, is_gone, refusal_of, refusal_retire_by}
 use Rattle.lpt_journal.specs.Replies.{history_after}
 use Rattle.lpt_journal.specs.Whole.{came}
-use Rattle.lpt_apart.specs.Ends.{PutOut, node_at}
-use Rattle.lpt_apart.specs.Facts.{Retired, Log}
-use Rattle.lpt_apart.specs.Steps.{CanHappen}
-use Rattle.lpt_apart.specs.Steps as steps
+use Rattle.lpt_apart.specs.Ends.{PutOut, node_at, Retired, Log}
+use Rattle.lpt_apart.specs.TwoEnds.{CanHappen}
+use Rattle.lpt_apart.specs.Ends as steps
 use Rattle.lpt_apart.proofs.Links.{held_without}
 use Rattle.lpt_apart.proofs.Losing.{is_held_part, WereLost, lose_below}
 use Rattle.lpt_apart.proofs.Ties.{ends_of, IsTied, Leads, longer}

@@ -16,10 +16,8 @@ use Rattle.lpt_node.specs.Jobs.{refusal_claim, refusal_apply}
 use Rattle.lpt_node.specs.Nodes.{NodeData}
 use Rattle.lpt_node.specs.Sending.{refusal_finish, refusal_open, refusal_send, part_sent}
 use Rattle.lpt_node.specs.Times.{refusal_tick, refusal_end, can_set_back}
-use Rattle.lpt_apart.specs.Clocks.{after_all}
-use Rattle.lpt_apart.specs.Ends.{Ends, PutOut}
-use Rattle.lpt_apart.specs.Moves.{CanMove, Do, Free, Move, Pair}
-use Rattle.lpt_apart.specs.Steps.{Accept, Apply, Claim, Commit, Expire, Finish, Open, Plain, Restart, Retire, Send, Step, Tick}
+use Rattle.lpt_apart.specs.Ends.{after_all, Ends, PutOut, Do, Free, Move, Pair, Accept, Apply, Claim, Commit, Expire, Finish, Open, Plain, Restart, Retire, Send, Step, Tick}
+use Rattle.lpt_apart.specs.TwoEnds.{CanMove}
 use Rattle.lpt_apart.specs.Resets.{side_of}
 use Rattle.lpt_apart.proofs.Local.{Aboard, aboard, is_of_craft, is_of_ground, next_aboard, next_ground}
 use Rattle.lpt_apart.specs.Freeing.{part_line}

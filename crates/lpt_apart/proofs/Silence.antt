@@ -23,10 +23,8 @@ use Rattle.lpt_node.specs.Times.{expired_of, which_ends}
 use Rattle.lpt_model.specs.State.{as_list}
 use Rattle.lpt_model.specs.Tickets.{ticket_of}
 use Rattle.lpt_journal.proofs.CountLemmas.{same_name-comm}
-use Rattle.lpt_apart.specs.Ends.{PutOut, Ends, node_at, with_node, put_out, is_part, without}
-use Rattle.lpt_apart.specs.Facts.{is_same}
-use Rattle.lpt_apart.specs.Steps.{Step, Open, Send, Plain, Finish, Accept, Tick, Expire, Claim, Commit, Apply, Retire, Restart, CanHappen, committed_on, after}
-use Rattle.lpt_apart.specs.Moves.{Pair, Move, Do, Free, freed_by, retired_by, pair_after, CanMove}
+use Rattle.lpt_apart.specs.Ends.{PutOut, Ends, node_at, with_node, put_out, is_part, without, is_same, Step, Open, Send, Plain, Finish, Accept, Tick, Expire, Claim, Commit, Apply, Retire, Restart, committed_on, after, Pair, Move, Do, Free, freed_by, retired_by, pair_after}
+use Rattle.lpt_apart.specs.TwoEnds.{CanHappen, CanMove}
 use Rattle.lpt_apart.proofs.Closing.{kept_removed, IsShut, IsNoRetirement, closed_stays}
 use Rattle.lpt_events.proofs.LaneLemmas.{same_direction-true}
 use Rattle.lpt_packet.proofs.BoolLemmas.{and_false, and_left, and_right, not_true, or_false_left, or_false_right}

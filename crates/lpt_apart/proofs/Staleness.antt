@@ -27,11 +27,11 @@ use Rattle.lpt_journal.specs.Replies.{history_after}
 use Rattle.lpt_journal.specs.Senders.{Sender, FreeSender, OpenSender, ClosedSender, sender}
 use Rattle.lpt_journal.proofs.HeadlineLemmas.{every}
 use Rattle.lpt_apart.specs.Ends.{Ends, is_part}
-use Rattle.lpt_apart.specs.Steps.{IsOnTheWay, is_harmless, MayCome}
+use Rattle.lpt_apart.specs.TwoEnds.{IsOnTheWay, is_harmless, MayCome}
+use Rattle.lpt_apart.specs.Moves.{with_ledgers}
 use Rattle.lpt_apart.proofs.Closing.{IsShut}
 use Rattle.lpt_apart.proofs.Links.{IsHeldAs, held_at}
 use Rattle.lpt_apart.proofs.Ties.{ends_of, Follows}
-use Rattle.lpt_apart.specs.Moves.{with_ledgers}
 use Rattle.lpt_apart.proofs.Silence.{none_there, AreSilent, AreMute}
 use Rattle.lpt_events.proofs.LaneLemmas.{same_direction-refl}
 

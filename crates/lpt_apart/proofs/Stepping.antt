@@ -11,11 +11,10 @@ use Rattle.lpt_model.specs.State.{State, no_state}
 use Rattle.lpt_journal.specs.Replies.{history_after}
 use Rattle.lpt_journal.specs.Whole as journal
 use Rattle.lpt_refinement.proofs.Follows.{follows}
-use Rattle.lpt_apart.specs.Ends.{PutOut, Ends, no_ends}
-use Rattle.lpt_apart.specs.Facts.{Log}
-use Rattle.lpt_apart.specs.Steps.{Step, Open, Send, Plain, Finish, Accept, Tick, Expire, Claim, Commit, Apply, Retire, Restart, CanHappen, CanRun, after, ends_reached}
-use Rattle.lpt_apart.specs.Whole.{came_after, came}
-use Rattle.lpt_apart.specs.Worlds.{AreEventSteps, IsEventStep, IsReadyNode, IsAWorld, EndsAreAWorld}
+use Rattle.lpt_apart.specs.Ends.{PutOut, Ends, no_ends, Log, Step, Open, Send, Plain, Finish, Accept, Tick, Expire, Claim, Commit, Apply, Retire, Restart, after}
+use Rattle.lpt_apart.specs.TwoEnds.{CanHappen, came_after}
+use Rattle.lpt_apart.specs.Worlds.{CanRun, ends_reached, AreEventSteps, IsEventStep, IsReadyNode, IsAWorld, EndsAreAWorld}
+use Rattle.lpt_apart.specs.Whole.{came}
 use Rattle.lpt_apart.proofs.Accepting.{accept}
 use Rattle.lpt_apart.proofs.Events.{open_step, send, plain, finish, tick, expire, claim, commit, apply, restart, ready}
 use Rattle.lpt_apart.proofs.Retiring.{retire}

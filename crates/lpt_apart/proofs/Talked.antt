@@ -16,12 +16,10 @@ use Rattle.lpt_events.proofs.LaneLemmas.{same_direction-refl}
 use Rattle.lpt_node.specs.Accepting.{packet_accepted}
 use Rattle.lpt_node.specs.Sending.{part_sent}
 use Rattle.lpt_model.specs.State.{as_list}
-use Rattle.lpt_apart.specs.Clocks.{after_all, CanAll}
-use Rattle.lpt_apart.specs.Ends.{Ends, PutOut, node_at, without}
-use Rattle.lpt_apart.specs.Facts.{is_same}
-use Rattle.lpt_apart.specs.Moves.{CanMove, CanMoveAll, Do, Free, Move, Pair, came_to, pair_after, no_pair}
+use Rattle.lpt_apart.specs.Ends.{after_all, Ends, PutOut, node_at, without, is_same, Do, Free, Move, Pair, pair_after, no_pair, Accept, Retire, Send, Step}
+use Rattle.lpt_apart.specs.TwoEnds.{CanAll, CanMove, IsOnTheWay, IsOver}
+use Rattle.lpt_apart.specs.Moves.{CanMoveAll, came_to}
 use Rattle.lpt_apart.specs.Plays.{moves_of}
-use Rattle.lpt_apart.specs.Steps.{Accept, IsOnTheWay, IsOver, Retire, Send, Step}
 use Rattle.lpt_apart.proofs.Freely.{steps_are_moves}
 use Rattle.lpt_apart.specs.Freeing.{Act, CanAct, CanActAll, Comes, Hears, IsOwn, Makes, Says, Sends, StepsAreTalked, Talk, with_act, with_acts, part_line, with_answer}
 use Rattle.lpt_apart.specs.Lines.{Finished, Freed, is_unheard, Line, Packet, Part, receives, sends}

@@ -7,10 +7,8 @@ use Rattle.lpt_packet.specs.Names.{Name}
 use Rattle.lpt_packet.proofs.BoolLemmas.{and_left, and_right, not_true}
 use Rattle.lpt_events.specs.Sides.{receiver_side}
 use Rattle.lpt_events.specs.declared.config.Config.{Config}
-use Rattle.lpt_apart.specs.Clocks.{after_all, CanAll, no_pair_later}
-use Rattle.lpt_apart.specs.Ends.{node_at}
-use Rattle.lpt_apart.specs.Moves.{CanMove, Do, Free, Move, Pair, pair_after}
-use Rattle.lpt_apart.specs.Steps.{Accept, Retire, Send}
+use Rattle.lpt_apart.specs.Ends.{after_all, node_at, Do, Free, Move, Pair, pair_after, Accept, Retire, Send}
+use Rattle.lpt_apart.specs.TwoEnds.{CanAll, no_pair_later, CanMove}
 use Rattle.lpt_apart.proofs.Closing.{IsShut}
 use Rattle.lpt_apart.proofs.Clocks.{ends_with_clocks_keep_the_promise, ends_with_clocks_withhold_nothing}
 use Rattle.lpt_apart.specs.Freeing.{Act, CanAct, CanActAll, Comes, Hears, LinesFreeInOrder, Makes, Says, Sends, Talk, with_act, with_acts, part_line, with_answer}

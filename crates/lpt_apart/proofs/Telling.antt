@@ -36,10 +36,9 @@ use Rattle.lpt_journal.specs.Replies.{answer, history_after, entry}
 use Rattle.lpt_journal.specs.Senders.{is_opening_of, opened}
 use Rattle.lpt_journal.specs.Whole.{came}
 use Rattle.lpt_refinement.proofs.ArrivalsAgree.{arrival_agrees}
-use Rattle.lpt_apart.specs.Facts.{Asked, Aborted, Left, Log, with_abortion}
-use Rattle.lpt_apart.specs.Steps.{with_release, with_report}
+use Rattle.lpt_apart.specs.Ends.{Asked, Aborted, Left, Log, with_abortion, with_release, with_report}
+use Rattle.lpt_apart.specs.TwoEnds.{came_by, is_reported}
 use Rattle.lpt_apart.specs.Told.{with_releases, with_ended, log_told}
-use Rattle.lpt_apart.specs.Whole.{came_by, is_reported}
 use Rattle.lpt_apart.proofs.Logs.{opened_told, opened_of_it, released_told, put_some-answer}
 use Rattle.lpt_apart.proofs.Ties.{IsLonger}
 

@@ -23,10 +23,9 @@ use Rattle.lpt_journal.specs.Whole.{came}
 use Rattle.lpt_refinement.proofs.Follows.{follows}
 use Rattle.lpt_journal.proofs.HeadlineLemmas.{every}
 use Rattle.lpt_journal.proofs.TicketSteps.{jobs_sound}
-use Rattle.lpt_apart.specs.Ends.{PutOut, Ends}
-use Rattle.lpt_apart.specs.Facts.{Log}
-use Rattle.lpt_apart.specs.Told.{log_told}
+use Rattle.lpt_apart.specs.Ends.{PutOut, Ends, Log}
 use Rattle.lpt_apart.specs.Worlds.{AreOfEvents}
+use Rattle.lpt_apart.specs.Told.{log_told}
 use Rattle.lpt_apart.proofs.Links.{AllHeld}
 
 -- ---- what is tied

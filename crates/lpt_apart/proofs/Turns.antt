@@ -8,9 +8,8 @@ use Rattle.lpt_packet.proofs.NameLemmas.{same_name-true}
 use Rattle.lpt_events.specs.Lanes.{same_direction}
 use Rattle.lpt_events.specs.declared.config.Config.{Config}
 use Rattle.lpt_events.proofs.LaneLemmas.{same_direction-true}
-use Rattle.lpt_apart.specs.Facts.{is_same}
-use Rattle.lpt_apart.specs.Moves.{Pair, Move, Do, Free, pair_after, CanMove}
-use Rattle.lpt_apart.specs.Steps.{Step, Open, Send, Plain, Finish, Accept, Tick, Expire, Claim, Commit, Apply, Retire, Restart, after}
+use Rattle.lpt_apart.specs.Ends.{is_same, Pair, Move, Do, Free, pair_after, Step, Open, Send, Plain, Finish, Accept, Tick, Expire, Claim, Commit, Apply, Retire, Restart, after}
+use Rattle.lpt_apart.specs.TwoEnds.{CanMove}
 use Rattle.lpt_apart.proofs.Closing.{IsNoRetirement}
 use Rattle.lpt_apart.specs.Lines.{sends, receives}
 

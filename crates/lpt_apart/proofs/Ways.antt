@@ -17,9 +17,8 @@ use Rattle.lpt_node.specs.Times.{expired_of, which_ends}
 use Rattle.lpt_model.specs.State.{as_list, job_left}
 use Rattle.lpt_model.specs.Tickets.{ticket_of}
 use Rattle.lpt_journal.proofs.CountLemmas.{same_name-comm}
-use Rattle.lpt_apart.specs.Ends.{PutOut, Ends, node_at, with_node, put_out, is_part, without}
-use Rattle.lpt_apart.specs.Facts.{is_same}
-use Rattle.lpt_apart.specs.Steps.{Step, Open, Send, Plain, Finish, Accept, Tick, Expire, Claim, Commit, Apply, Retire, Restart, IsOnTheWay, committed_on, after}
+use Rattle.lpt_apart.specs.Ends.{PutOut, Ends, node_at, with_node, put_out, is_part, without, is_same, Step, Open, Send, Plain, Finish, Accept, Tick, Expire, Claim, Commit, Apply, Retire, Restart, committed_on, after}
+use Rattle.lpt_apart.specs.TwoEnds.{IsOnTheWay}
 use Rattle.lpt_apart.proofs.Closing.{IsNoRetirement}
 
 -- a packet is one of these

@@ -6,9 +6,8 @@ use Rattle.lpt_memory.specs.Memories.{Contents}
 use Rattle.lpt_events.specs.Configs.{IsConfig}
 use Rattle.lpt_events.specs.declared.config.Config.{Config}
 use Rattle.lpt_journal.specs.Replies.{history_after}
-use Rattle.lpt_apart.specs.Ends.{Ends}
-use Rattle.lpt_apart.specs.Facts.{Opened, Asked, Released, Aborted, Left, Retired, Restarted, Log, is_same, is_of_it, message_awaited, AllDue}
-use Rattle.lpt_apart.specs.Whole.{last_opened, is_aborted, last_released, WithholdsNothing, CameWhole}
+use Rattle.lpt_apart.specs.Ends.{Ends, Opened, Asked, Released, Aborted, Left, Retired, Restarted, Log, is_same}
+use Rattle.lpt_apart.specs.TwoEnds.{is_of_it, message_awaited, AllDue, last_opened, is_aborted, last_released, WithholdsNothing, CameWhole}
 use Rattle.lpt_apart.proofs.Awaiting.{of_it, awaits, awaited_is}
 use Rattle.lpt_apart.proofs.Dues.{all_due}
 use Rattle.lpt_apart.proofs.Ties.{Came, Leads}

@@ -5,11 +5,7 @@
 -- it hadn't come to it.
 use Rattle.std.specs.Prelude.{◌≡◌, ℕ, ◌+◌, ◌<◌, ◌^◌, List, [], ◌∷◌, Result, Ok, Err}
 use Rattle.lpt_acts.specs.Acts.{Within, limits_of, with_limits}
-use Rattle.lpt_apart.specs.Clocks.{after_all}
-use Rattle.lpt_apart.specs.Ends.{node_at, with_node}
-use Rattle.lpt_apart.specs.Facts.{Restarted}
-use Rattle.lpt_apart.specs.Moves.{Do, Move, Pair}
-use Rattle.lpt_apart.specs.Steps.{Restart, Tick}
+use Rattle.lpt_apart.specs.Ends.{after_all, node_at, with_node, Restarted, Do, Move, Pair, Restart, Tick}
 use Rattle.lpt_events.specs.declared.config.Config.{Config}
 use Rattle.lpt_events.specs.declared.side.Side.{Side}
 use Rattle.lpt_events.specs.declared.side.Side.TheVariants.{Ground, Craft}

@@ -8,13 +8,10 @@ use Rattle.lpt_events.specs.Configs.{IsConfig}
 use Rattle.lpt_events.specs.Sides.{sender_side}
 use Rattle.lpt_events.specs.declared.config.Config.{Config}
 use Rattle.lpt_node.specs.Sending.{part_sent}
-use Rattle.lpt_apart.specs.Clocks.{Own, later, own_config, no_pair_later, after_all, CanAll}
-use Rattle.lpt_apart.specs.Ends.{node_at}
-use Rattle.lpt_apart.specs.Moves.{CanMove, Do, Move, Pair, no_pair}
+use Rattle.lpt_apart.specs.Ends.{after_all, node_at, Do, Move, Pair, no_pair, Accept, Retire, Send, Step}
+use Rattle.lpt_apart.specs.TwoEnds.{Own, later, own_config, no_pair_later, CanAll, CanMove, is_harmless, came_since, WithholdsNothing, IsPromised}
+use Rattle.lpt_apart.specs.Worlds.{CanRun}
 use Rattle.lpt_apart.specs.Plays.{moves_of}
-use Rattle.lpt_apart.specs.Steps.{Accept, CanRun, Retire, Send, Step, is_harmless}
-use Rattle.lpt_apart.specs.Whole.{came_since, WithholdsNothing}
-use Rattle.lpt_apart.specs.Worlds.{IsPromised}
 use Rattle.lpt_apart.specs.Lines.{Line, Part, MaySay, answer, sends}
 
 -- the moves that two ends made, and what their programs said, the newest first. All that was said

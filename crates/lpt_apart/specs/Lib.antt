@@ -1,14 +1,12 @@
-pub mod Clocks
 pub mod Deeds
 pub mod Ends
-pub mod Facts
 pub mod Freeing
 pub mod Lines
 pub mod Moves
 pub mod Plays
 pub mod Resets
 pub mod ResetsFreeing
-pub mod Steps
 pub mod Told
+pub mod TwoEnds
 pub mod Whole
 pub mod Worlds

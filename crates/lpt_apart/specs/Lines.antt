@@ -11,10 +11,7 @@ use Rattle.lpt_events.specs.Sides.{receiver_side, sender_side}
 use Rattle.lpt_events.specs.declared.event.Event.TheVariants as event
 use Rattle.lpt_ledger.specs.States.{state_at}
 use Rattle.lpt_ledger.specs.declared.state.State.TheVariants.{Closed}
-use Rattle.lpt_apart.specs.Ends.{PutOut, Ends, node_at}
-use Rattle.lpt_apart.specs.Facts.{is_same}
-use Rattle.lpt_apart.specs.Moves.{Pair, Move, Do, Free}
-use Rattle.lpt_apart.specs.Steps.{Accept, Retire}
+use Rattle.lpt_apart.specs.Ends.{PutOut, Ends, node_at, is_same, Pair, Move, Do, Free, Accept, Retire}
 
 -- What goes over the link: the packet of a part, with its name and the turn of its sender; a packet
 -- that is no part; its sender says that it is finished with a name, in this turn; its receiver

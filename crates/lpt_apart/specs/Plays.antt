@@ -16,9 +16,9 @@ use Rattle.lpt_journal.specs.Link.{sent}
 use Rattle.lpt_journal.specs.Replies.{history_after}
 use Rattle.lpt_refinement.specs.Shows.{Shows}
 use Rattle.lpt_refinement.specs.Views.{views}
-use Rattle.lpt_apart.specs.Ends.{Ends}
-use Rattle.lpt_apart.specs.Moves.{Move, Do, Free, came_to, CanMoveAll}
-use Rattle.lpt_apart.specs.Steps.{Step, Open, Send, Plain, Finish, Accept, Tick, Expire, Claim, Commit, Apply, Retire, Restart, ends_reached, CanRun}
+use Rattle.lpt_apart.specs.Ends.{Ends, Move, Do, Free, Step, Open, Send, Plain, Finish, Accept, Tick, Expire, Claim, Commit, Apply, Retire, Restart}
+use Rattle.lpt_apart.specs.Worlds.{ends_reached, CanRun}
+use Rattle.lpt_apart.specs.Moves.{came_to, CanMoveAll}
 use Rattle.lpt_apart.specs.Told.{log_told}
 
 -- ---- a world's events as steps

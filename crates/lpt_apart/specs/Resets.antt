@@ -4,12 +4,8 @@
 -- What a machine did since it was last written is deleted by its reset from what was done. So what
 -- was done is a history of two ends apart, whatever was deleted of it.
 use Rattle.std.specs.Prelude.{◌≡◌, ℕ, ◌+◌, ◌<◌, ◌^◌, List, [], ◌∷◌, ⊤}
-use Rattle.lpt_apart.specs.Clocks.{CanAll, Own, after_all, later, no_pair_later, own_config}
-use Rattle.lpt_apart.specs.Ends.{node_at}
-use Rattle.lpt_apart.specs.Moves.{CanMove, Do, Free, Move, Pair, pair_after}
-use Rattle.lpt_apart.specs.Steps.{Accept, Apply, Claim, Commit, Expire, Finish, Open, Plain, Restart, Retire, Send, Tick}
-use Rattle.lpt_apart.specs.Whole.{came_since, WithholdsNothing}
-use Rattle.lpt_apart.specs.Worlds.{IsPromised}
+use Rattle.lpt_apart.specs.Ends.{after_all, node_at, Do, Free, Move, Pair, pair_after, Accept, Apply, Claim, Commit, Expire, Finish, Open, Plain, Restart, Retire, Send, Tick}
+use Rattle.lpt_apart.specs.TwoEnds.{CanAll, Own, later, no_pair_later, own_config, CanMove, came_since, WithholdsNothing, IsPromised}
 use Rattle.lpt_apart.specs.Deeds.{Kept, end_at, read_back, with_restart, state_written}
 use Rattle.lpt_events.specs.Configs.{IsConfig}
 use Rattle.lpt_events.specs.Sides.{receiver_side, sender_side}

@@ -12,9 +12,8 @@ use Rattle.lpt_events.specs.Sides.{receiver_side, sender_side}
 use Rattle.lpt_events.specs.declared.config.Config.{Config}
 use Rattle.lpt_events.specs.declared.side.Side.{Side}
 use Rattle.lpt_events.specs.declared.side.Side.TheVariants.{Ground, Craft}
-use Rattle.lpt_apart.specs.Clocks.{Own, later, own_config, no_pair_later, after_all}
-use Rattle.lpt_apart.specs.Moves.{CanMove, Do, Move, Pair}
-use Rattle.lpt_apart.specs.Steps.{Accept, Finish, Plain, Send, Step, is_harmless}
+use Rattle.lpt_apart.specs.Ends.{after_all, Do, Move, Pair, Accept, Finish, Plain, Send, Step}
+use Rattle.lpt_apart.specs.TwoEnds.{Own, later, own_config, no_pair_later, CanMove, is_harmless}
 use Rattle.lpt_apart.specs.Deeds.{Kept}
 use Rattle.lpt_apart.specs.Resets.{CanLiveAll, Deed, IsLeft, IsWritable, Lived, Make, MakeForgotten, Reset, Write, just_written, left_without, lived_all, side_of}
 use Rattle.lpt_state.specs.Lastings.{IsBoundAlike}

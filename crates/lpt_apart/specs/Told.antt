@@ -9,7 +9,7 @@ use Rattle.lpt_events.specs.declared.reply.Answer.TheVariants.{Delivered, Expire
 use Rattle.lpt_events.specs.Lanes.{lane_direction}
 use Rattle.lpt_journal.specs.Journal.{SentPacket, Recorded, History}
 use Rattle.lpt_journal.specs.Releases.{released_by}
-use Rattle.lpt_apart.specs.Facts.{Opened, Asked, Released, Aborted, Left, Retired, Restarted, Log, with_abortion}
+use Rattle.lpt_apart.specs.Ends.{Opened, Asked, Released, Aborted, Left, Retired, Restarted, Log, with_abortion}
 
 -- the log with these openings
 abbrev pub with_openings : List Opening → Log → Log

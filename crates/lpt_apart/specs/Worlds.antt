@@ -1,26 +1,33 @@
--- Two ends apart are a world, and keep its promise.
-use Rattle.std.specs.Prelude.{◌≡◌, List, [], ◌∷◌, Some, IsTrue, ⊤}
-use Rattle.std.specs.List.{slice_get}
+-- What is proved of two ends apart, whatever steps they did: they are those of a world.
+use Rattle.std.specs.Prelude.{List, [], ◌∷◌, Some, ◌≡◌, ⊤, IsTrue}
 use Rattle.lpt_memory.specs.Memories.{Contents}
-use Rattle.lpt_memory.specs.Readings.{Job, Source}
-use Rattle.lpt_events.specs.Configs.{IsConfig}
 use Rattle.lpt_events.specs.declared.config.Config.{Config}
-use Rattle.lpt_acts.specs.Acts.{Act, act_of, Back, Within, Refuse, Drop}
-use Rattle.lpt_events.specs.declared.event.Event.{Event}
+use Rattle.lpt_model.specs.Tickets.{ticket_of}
+use Rattle.lpt_acts.specs.Acts.{Back, Within, Act, act_of, Refuse, Drop}
+use Rattle.lpt_memory.specs.Readings.{Job}
 use Rattle.lpt_events.specs.declared.worker.Worker.{Worker}
-use Rattle.lpt_jobs.specs.Jobs.{head_of, is_claimed, Ready}
 use Rattle.lpt_node.specs.Jobs.{FrontIsFor}
 use Rattle.lpt_model.specs.State.{State}
-use Rattle.lpt_model.specs.Tickets.{ticket_of}
-use Rattle.lpt_journal.specs.Jobs.{left_by}
+use Rattle.lpt_events.specs.Configs.{IsConfig}
+use Rattle.lpt_events.specs.declared.event.Event.{Event}
+use Rattle.lpt_jobs.specs.Jobs.{head_of, is_claimed}
 use Rattle.lpt_journal.specs.Legal.{Legal}
 use Rattle.lpt_journal.specs.Replies.{history_after}
 use Rattle.lpt_refinement.specs.Shows.{Shows}
 use Rattle.lpt_refinement.specs.Views.{views}
-use Rattle.lpt_apart.specs.Ends.{Ends}
-use Rattle.lpt_apart.specs.Facts.{AllDue, requests_executed, waiting}
-use Rattle.lpt_apart.specs.Steps.{Step, Apply, Expire, Tick, ends_reached, CanRun}
+use Rattle.lpt_apart.specs.Ends.{Ends, no_ends, Step, after, Tick, Expire, Apply}
+use Rattle.lpt_apart.specs.TwoEnds.{CanHappen}
 use Rattle.lpt_apart.specs.Told.{log_told}
+
+-- two ends after these steps, the newest of which stands first
+abbrev pub ends_reached : Config → Contents → List Step → Ends
+ends_reached c first [] = no_ends c first
+ends_reached c first (x ∷ xs) = after c (ends_reached c first xs) x
+
+-- each step can happen after those before it
+abbrev pub CanRun : Config → Contents → List Step → Type 0
+CanRun c first [] = ⊤
+CanRun c first (x ∷ xs) = CanRun c first xs × CanHappen c (ends_reached c first xs) x
 
 -- What the spacecraft's node asks for besides: a job that a worker has was claimed and not handed
 -- in, if it is of this boot; and what would be executed was read for these memories.
@@ -78,14 +85,3 @@ EndsAreAWorld =
     → IsConfig c
     → CanRun c first xs
     → IsAWorld c first (AreEventSteps xs) (ends_reached c first xs)
-
--- Each fact of the log was due: a message that was released under a name was the awaited one, and
--- a plain request one that ground asked. The memories are their first content, changed by the
--- executed requests in order of release. What the spacecraft's node executes next, once it was
--- read, is the oldest request that waits.
-pub record IsPromised (c : Config) (first : Contents) (e : Ends) : Type 0 where
-  pub due : AllDue e.log
-  pub memories : e.memories ≡ left_by c.apid (requests_executed e.log) first
-  pub next : (r : Source)
-      → head_of e.on_craft.jobs.jobs ≡ Ready r
-      → slice_get (waiting e.log) 0 ≡ Some r.message

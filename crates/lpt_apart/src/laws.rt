@@ -1,10 +1,10 @@
 //! What is proved of two ends apart: functions with empty bodies.
 
-ghost use Rattle.lpt_apart.specs.Clocks.{EndsWithClocksKeepThePromise};
-ghost use Rattle.lpt_apart.specs.Moves.{EndsApartAreAWorld};
-ghost use Rattle.lpt_apart.specs.Plays.{WorldsAreEnds, StepsAreMoves};
-ghost use Rattle.lpt_apart.specs.Whole.{EndsWithClocksWithholdNothing, MovesBringTheSame, WorldsBringTheSame};
+ghost use Rattle.lpt_apart.specs.TwoEnds.{EndsWithClocksKeepThePromise, EndsWithClocksWithholdNothing};
 ghost use Rattle.lpt_apart.specs.Worlds.{EndsAreAWorld};
+ghost use Rattle.lpt_apart.specs.Moves.{EndsApartAreAWorld};
+ghost use Rattle.lpt_apart.specs.Whole.{MovesBringTheSame, WorldsBringTheSame};
+ghost use Rattle.lpt_apart.specs.Plays.{WorldsAreEnds, StepsAreMoves};
 
 /// Take two nodes of one configuration, one on each side, and any list of steps of them that can
 /// happen, if the network hands over only what the other end put out, and what is neither a part
@@ -29,6 +29,14 @@ pub fn ends_with_clocks_keep_the_promise()
     ensures { EndsWithClocksKeepThePromise }
 {}
 
+/// Such ends withhold nothing that came whole. Take what was last opened under a name. If each of
+/// its parts was handed over since then, and since its receiver was last restarted, while there was
+/// room, the log says since then that it was released, unless it says since then that its
+/// reception expired or was broken off. Nothing is said of parts that don't come.
+pub fn ends_with_clocks_withhold_nothing()
+    ensures { EndsWithClocksWithholdNothing }
+{}
+
 /// Whatever a world does, two ends can do: each legal journal is steps of them, if what a lane
 /// delivers is handed over, and they come to the nodes, jobs, memories and log of a world that
 /// shows it. So of the network no more is asked than a world asks of its link.
@@ -40,14 +48,6 @@ pub fn worlds_are_ends()
 /// at its sender.
 pub fn steps_are_moves()
     ensures { StepsAreMoves }
-{}
-
-/// Such ends withhold nothing that came whole. Take what was last opened under a name. If each of
-/// its parts was handed over since then, and since its receiver was last restarted, while there was
-/// room, the log says since then that it was released, unless it says since then that its
-/// reception expired or was broken off. Nothing is said of parts that don't come.
-pub fn ends_with_clocks_withhold_nothing()
-    ensures { EndsWithClocksWithholdNothing }
 {}
 
 /// The parts that came to a world come by the steps that its journal is.

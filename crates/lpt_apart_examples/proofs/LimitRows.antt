@@ -23,8 +23,9 @@ use Rattle.lpt_events.specs.declared.lane.Lane.TheVariants.{S1, S2}
 use Rattle.lpt_events.specs.declared.side.Side.TheVariants.{Craft}
 use Rattle.lpt_acts.specs.Acts.{Act, Open, Send, Take, Deliver, Tick, Expire, Within}
 use Rattle.lpt_journal.specs.Replies.{history_after}
-use Rattle.lpt_apart.specs.Ends.{Ends}
-use Rattle.lpt_apart.specs.Moves.{Pair, Move, no_pair, pair_after, CanMove, came_to, CanMoveAll}
+use Rattle.lpt_apart.specs.Ends.{Ends, Pair, Move, no_pair, pair_after}
+use Rattle.lpt_apart.specs.TwoEnds.{CanMove}
+use Rattle.lpt_apart.specs.Moves.{came_to, CanMoveAll}
 use Rattle.lpt_apart.specs.Plays.{AllForward, steps_of, moves_of}
 use Rattle.lpt_apart.specs.Told.{log_told}
 use Rattle.lpt_apart.proofs.Freely.{steps_are_moves}

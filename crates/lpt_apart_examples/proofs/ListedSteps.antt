@@ -7,9 +7,8 @@ use Rattle.lpt_acts.specs.Acts.{Act, Back, On, Tick, Within}
 use Rattle.lpt_journal.specs.Journal.{Recorded, History, with_all}
 use Rattle.lpt_journal.specs.Releases.{released_by, releases}
 use Rattle.lpt_journal.specs.Replies.{history_after}
-use Rattle.lpt_apart.specs.Facts.{Log}
+use Rattle.lpt_apart.specs.Ends.{Log, Step}
 use Rattle.lpt_apart.specs.Plays.{AllForward, IsForward, step_of, with_step, steps_of}
-use Rattle.lpt_apart.specs.Steps.{Step}
 use Rattle.lpt_apart.specs.Told.{with_openings, with_releases, with_ended, with_event, log_told}
 use Rattle.lpt_journal_examples.specs.Passes.{usual_memories}
 use Rattle.lpt_journal_examples.proofs.Listed.{recorded_listed, recorded_is}

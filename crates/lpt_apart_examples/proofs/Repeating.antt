@@ -13,11 +13,9 @@ use Rattle.lpt_ledger.proofs.ClosingLemmas.{state_at-all_closed}
 use Rattle.lpt_node.specs.Nodes.{Messages, NodeData}
 use Rattle.lpt_node.specs.Sending.{refusal_open_in, refusal_send_of, sent_of}
 use Rattle.lpt_journal.proofs.MapLemmas.{get_insert, get_remove}
-use Rattle.lpt_apart.specs.Clocks.{after_all}
-use Rattle.lpt_apart.specs.Ends.{Ends}
-use Rattle.lpt_apart.specs.Moves.{CanMove, Do, Free, Move}
-use Rattle.lpt_apart.specs.Steps as step
-use Rattle.lpt_apart.specs.Steps.{Restart, Retire, Send}
+use Rattle.lpt_apart.specs.Ends.{after_all, Ends, Do, Free, Move, Restart, Retire, Send}
+use Rattle.lpt_apart.specs.TwoEnds.{CanMove}
+use Rattle.lpt_apart.specs.Ends as step
 use Rattle.lpt_apart.specs.Freeing.{Act, CanAct, CanActAll, Hears, Makes, Says, Sends, Talk, with_act, with_acts, no_talk, with_answer}
 use Rattle.lpt_apart.specs.Lines.{Finished, Freed, is_unheard, Line}
 use Rattle.lpt_journal_examples.specs.Passes.{own, m20, m9, usual}

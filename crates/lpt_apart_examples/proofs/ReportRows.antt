@@ -14,8 +14,8 @@ use Rattle.lpt_events.specs.declared.lane.Lane.TheVariants.{S1, G1}
 use Rattle.lpt_events.specs.declared.worker.Worker.TheVariants.{W1}
 use Rattle.lpt_acts.specs.Acts.{Execute, Act, Send, Plain, Take, Deliver, Claim, Commit, Apply}
 use Rattle.lpt_journal.specs.Replies.{history_after}
-use Rattle.lpt_apart.specs.Ends.{Ends}
-use Rattle.lpt_apart.specs.Moves.{Move, came_to, CanMoveAll}
+use Rattle.lpt_apart.specs.Ends.{Ends, Move}
+use Rattle.lpt_apart.specs.Moves.{came_to, CanMoveAll}
 use Rattle.lpt_apart.specs.Plays.{AllForward, steps_of, moves_of}
 use Rattle.lpt_apart.specs.Told.{log_told}
 use Rattle.lpt_apart.proofs.Freely.{steps_are_moves}

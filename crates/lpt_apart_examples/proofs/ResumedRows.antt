@@ -22,14 +22,13 @@ use Rattle.lpt_journal.specs.Replies.{history_after}
 use Rattle.lpt_node.specs.Nodes.{NodeData, is_open, no_data}
 use Rattle.lpt_node.specs.Restarts.{NoneOpen}
 use Rattle.lpt_state.specs.Lastings.{AreRuns, IsBoundAlike, IsEnd}
-use Rattle.lpt_apart.specs.Clocks.{CanAll, after_all}
+use Rattle.lpt_apart.specs.Ends.{after_all, Ends, Pair, Move, Do, no_pair, pair_after}
+use Rattle.lpt_apart.specs.TwoEnds.{CanAll, CanMove, MayCome}
+use Rattle.lpt_apart.specs.Moves.{came_to, CanMoveAll}
 use Rattle.lpt_apart.specs.Deeds.{end_of, with_restart}
-use Rattle.lpt_apart.specs.Ends.{Ends}
-use Rattle.lpt_apart.specs.Moves.{Pair, Move, Do, no_pair, pair_after, CanMove, came_to, CanMoveAll}
 use Rattle.lpt_apart.specs.Plays.{AllForward, steps_of, moves_of}
 use Rattle.lpt_apart.specs.Resets.{IsWritable, CanLiveAll, just_written}
-use Rattle.lpt_apart.specs.Steps as steps
-use Rattle.lpt_apart.specs.Steps.{MayCome}
+use Rattle.lpt_apart.specs.Ends as steps
 use Rattle.lpt_apart.specs.Told.{log_told}
 use Rattle.lpt_apart.proofs.Freely.{steps_are_moves}
 use Rattle.lpt_apart.proofs.Played.{worlds_are_ends}

@@ -19,12 +19,13 @@ use Rattle.lpt_events.specs.declared.worker.Worker.TheVariants.{W1}
 use Rattle.lpt_journal.specs.Jobs.{memories}
 use Rattle.lpt_journal.specs.Replies.{history_after}
 use Rattle.lpt_journal.specs.Whole as whole
-use Rattle.lpt_apart.specs.Ends.{Ends}
-use Rattle.lpt_apart.specs.Moves.{Pair, Move, Do, came_to, CanMoveAll}
+use Rattle.lpt_apart.specs.Ends.{Ends, Pair, Move, Do}
+use Rattle.lpt_apart.specs.TwoEnds.{CameWhole}
+use Rattle.lpt_apart.specs.Moves.{came_to, CanMoveAll}
+use Rattle.lpt_apart.specs.Whole.{came_in}
 use Rattle.lpt_apart.specs.Plays.{AllForward, steps_of, moves_of}
-use Rattle.lpt_apart.specs.Steps as steps
+use Rattle.lpt_apart.specs.Ends as steps
 use Rattle.lpt_apart.specs.Told.{log_told}
-use Rattle.lpt_apart.specs.Whole.{came_in, CameWhole}
 use Rattle.lpt_apart.proofs.Bringing.{moves_bring_the_same, worlds_bring_the_same}
 use Rattle.lpt_apart.proofs.Freely.{steps_are_moves}
 use Rattle.lpt_apart.proofs.Played.{worlds_are_ends}

@@ -8,9 +8,10 @@ use Rattle.lpt_events.specs.Arrivals.{Arrival, AnAbort, arrival_in}
 use Rattle.lpt_events.specs.declared.config.Config.{Config}
 use Rattle.lpt_events.specs.declared.side.Side.TheVariants.{Ground}
 use Rattle.lpt_node.specs.Accepting.{packet_accepted}
-use Rattle.lpt_apart.specs.Moves.{Pair, Move, Do, pair_after, CanMove, came_to, CanMoveAll}
-use Rattle.lpt_apart.specs.Steps.{Finish, Accept, is_harmless, accepted_on}
-use Rattle.lpt_apart.specs.Whole.{came_moved, came_in}
+use Rattle.lpt_apart.specs.Ends.{Pair, Move, Do, pair_after, Finish, Accept, accepted_on}
+use Rattle.lpt_apart.specs.TwoEnds.{CanMove, is_harmless, came_moved}
+use Rattle.lpt_apart.specs.Moves.{came_to, CanMoveAll}
+use Rattle.lpt_apart.specs.Whole.{came_in}
 
 -- moves that can be done, and come to two ends
 pub record Come (c : Config) (first : Contents) (xs : List Move) (p : Pair) : Type 0 where

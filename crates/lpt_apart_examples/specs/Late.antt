@@ -4,9 +4,8 @@ use Rattle.lpt_packet.specs.declared.direction.Direction.TheVariants.{Up}
 use Rattle.lpt_events.specs.declared.side.Side.TheVariants.{Ground}
 use Rattle.lpt_node.specs.Sending.{part_sent}
 use Rattle.lpt_acts.specs.Acts.{limits_of}
-use Rattle.lpt_apart.specs.Clocks.{after_all, no_pair_later}
-use Rattle.lpt_apart.specs.Moves.{CanMove, Move, Pair, Do, Free}
-use Rattle.lpt_apart.specs.Steps.{Open, Send, Accept, Retire, Restart}
+use Rattle.lpt_apart.specs.Ends.{after_all, Move, Pair, Do, Free, Open, Send, Accept, Retire, Restart}
+use Rattle.lpt_apart.specs.TwoEnds.{no_pair_later, CanMove}
 use Rattle.lpt_apart.specs.Freeing.{Act, Hears, Makes, Says, Sends, part_line}
 use Rattle.lpt_apart.specs.Lines.{Finished, Freed, is_unheard, Line}
 use Rattle.lpt_journal_examples.specs.Passes.{own, m20, m9, usual, usual_memories}

@@ -4,9 +4,7 @@ use Rattle.std.specs.Prelude.{ℕ, List, [], ◌∷◌, Some}
 use Rattle.lpt_packet.specs.declared.direction.Direction.TheVariants.{Up}
 use Rattle.lpt_events.specs.declared.side.Side.TheVariants.{Craft}
 use Rattle.lpt_acts.specs.Acts.{Limits, On, Back, Within}
-use Rattle.lpt_apart.specs.Facts.{Opened, Aborted, Log}
-use Rattle.lpt_apart.specs.Moves.{Move, Do}
-use Rattle.lpt_apart.specs.Steps.{Open, Send, Accept, Tick, Expire}
+use Rattle.lpt_apart.specs.Ends.{Opened, Aborted, Log, Move, Do, Open, Send, Accept, Tick, Expire}
 use Rattle.lpt_journal_examples.specs.Passes.{own, m20, m9}
 
 -- a timeout of two ticks, and room for one reception

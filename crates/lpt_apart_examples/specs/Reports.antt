@@ -3,9 +3,7 @@ use Rattle.std.specs.Prelude.{ℕ, List, [], ◌∷◌, Some, None}
 use Rattle.lpt_packet.specs.declared.direction.Direction.TheVariants.{Up, Down}
 use Rattle.lpt_events.specs.declared.worker.Worker.TheVariants.{W1}
 use Rattle.lpt_acts.specs.Acts.{Execute}
-use Rattle.lpt_apart.specs.Facts.{Opened, Asked, Released, Left, Log}
-use Rattle.lpt_apart.specs.Moves.{Move, Do}
-use Rattle.lpt_apart.specs.Steps.{Send, Plain, Accept, Claim, Commit, Apply}
+use Rattle.lpt_apart.specs.Ends.{Opened, Asked, Released, Left, Log, Move, Do, Send, Plain, Accept, Claim, Commit, Apply}
 use Rattle.lpt_journal_examples.specs.Passes.{own, dump, dump_packet, report_packet}
 
 -- ---- octets

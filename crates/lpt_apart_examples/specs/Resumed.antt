@@ -6,10 +6,8 @@ use Rattle.lpt_events.specs.declared.config.Config.{Config}
 use Rattle.lpt_events.specs.declared.side.Side.TheVariants.{Craft}
 use Rattle.lpt_acts.specs.Acts.{On}
 use Rattle.lpt_apart.specs.Deeds.{Kept}
-use Rattle.lpt_apart.specs.Facts.{Opened, Aborted, Restarted, Log}
-use Rattle.lpt_apart.specs.Moves.{Do, Move, no_pair}
+use Rattle.lpt_apart.specs.Ends.{Opened, Aborted, Restarted, Log, Do, Move, no_pair, Open, Send, Accept, Tick, Expire}
 use Rattle.lpt_apart.specs.Resets.{Deed, Make, Reset, Write, just_written, lived_all}
-use Rattle.lpt_apart.specs.Steps.{Open, Send, Accept, Tick, Expire}
 use Rattle.lpt_journal_examples.specs.Passes.{own, m20, m9, usual, usual_memories}
 use Rattle.lpt_apart_examples.specs.Limits.{first_of_seven, first_of_eight}
 
@@ -28,8 +26,8 @@ abbrev pub narrow_config : Config
 narrow_config = record usual { timeout = 2; receptions = 1 }
 
 -- Ground sends a part of each of two messages, while the spacecraft's clock goes on. The state of
--- its end is written. It takes the first part; its machine is reset, which deletes that; and its end
--- is read back within those limits. The first part comes again and opens a reception, so that the
+-- its end is written. It takes the first part; its machine is reset, which deletes that; and it is
+-- read back within those limits. The first part comes again and opens a reception, so that the
 -- second has no room; that reception is over two ticks behind, and then the second part comes again
 -- and has room. Its reception is given up before its time. The oldest deed stands first.
 abbrev pub resumed_deeds : List Deed

@@ -4,9 +4,7 @@ use Rattle.lpt_packet.specs.declared.direction.Direction.TheVariants.{Up, Down}
 use Rattle.lpt_events.specs.declared.side.Side.TheVariants.{Craft}
 use Rattle.lpt_events.specs.declared.worker.Worker.TheVariants.{W1}
 use Rattle.lpt_acts.specs.Acts.{Execute}
-use Rattle.lpt_apart.specs.Facts.{Opened, Asked, Released, Left, Retired, Restarted, Log}
-use Rattle.lpt_apart.specs.Moves.{Move, Do, Free}
-use Rattle.lpt_apart.specs.Steps.{Open, Send, Plain, Accept, Claim, Commit, Apply, Retire, Restart}
+use Rattle.lpt_apart.specs.Ends.{Opened, Asked, Released, Left, Retired, Restarted, Log, Move, Do, Free, Open, Send, Plain, Accept, Claim, Commit, Apply, Retire, Restart}
 use Rattle.lpt_journal_examples.specs.Passes.{own, m20, m9, load, load_packet}
 
 -- ---- octets

@@ -9,10 +9,11 @@ ghost use Rattle.lpt_part.specs.declared.mode.Mode.TheVariants.{Strict};
 ghost use Rattle.lpt_state.specs.declared.fault.StateFault.TheVariants as fault;
 ghost use Rattle.lpt_state.specs.Spellings.{spelling};
 ghost use Rattle.lpt_state.specs.Verdicts.{verdict};
-ghost use Rattle.lpt_apart.specs.Clocks.{after_all};
+ghost use Rattle.lpt_apart.specs.Ends.{after_all};
+ghost use Rattle.lpt_apart.specs.TwoEnds.{CameWhole};
 ghost use Rattle.lpt_apart.specs.Moves.{came_to, CanMoveAll};
+ghost use Rattle.lpt_apart.specs.Whole.{came_in};
 ghost use Rattle.lpt_apart.specs.Resets.{CanLiveAll, just_written};
-ghost use Rattle.lpt_apart.specs.Whole.{came_in, CameWhole};
 ghost use Rattle.lpt_journal_examples.specs.Passes.{own, m9, usual, usual_memories, loaded_memories};
 ghost use Rattle.lpt_apart_examples.specs.Late.{before_late, late_acts, late_moves, start, FreesTooEarly};
 ghost use Rattle.lpt_apart_examples.specs.Limits.{clock_moves, narrow_log, narrow_moves};
@@ -72,7 +73,7 @@ pub fn large_reports_go_down()
         ≡ reverse report_log }
 {}
 
-/// The state of the spacecraft's end is written, and its machine reset, which deletes that it took a
+/// The state of the spacecraft's end is written. Its machine is reset, which deletes that it took a
 /// part. It is read back in a configuration with a shorter timeout and with room for one reception.
 /// Then the first part of a message opens one, and that of another message has no room; the
 /// reception expires behind that timeout, and now there is room.

@@ -15,8 +15,7 @@ use Rattle.lpt_execution.specs.Reporting.{request_source}
 use Rattle.lpt_jobs.specs.declared.job.Job.TheVariants.{Committed, Waiting}
 use Rattle.lpt_node.specs.Nodes.{no_data}
 use Rattle.lpt_acts.specs.Acts as act
-use Rattle.lpt_apart.specs.Facts.{Asked, Left, Released, Restarted}
-use Rattle.lpt_apart.specs.Steps.{with_report}
+use Rattle.lpt_apart.specs.Ends.{Asked, Left, Released, Restarted, with_report}
 use Rattle.lpt_c_end.specs.Changes.{IsNew}
 use Rattle.lpt_c_end.specs.Contents.{memories_told}
 use Rattle.lpt_c_end.specs.declared.end.End.{End}

@@ -2,9 +2,8 @@
 use Rattle.std.proofs.Common.{◌≡◌, ◌∙◌, ap, sym, subst, refl, ℕ, ◌==◌, nat_le, nat_lt, Bool, true, false, ◌&&◌, if◌then◌else◌, List, [], ◌∷◌, ◌++◌, length, Option, Some, None}
 use Rattle.lpt_packet.proofs.Readings.{true_eq}
 use Rattle.lpt_c_end.proofs.DropLemmas.{read_first}
-use Rattle.lpt_apart.specs.Clocks.{after_all, CanAll}
-use Rattle.lpt_apart.specs.Ends.{Ends, put_out}
-use Rattle.lpt_apart.specs.Moves.{Pair, CanMove, freed_by, retired_by}
+use Rattle.lpt_apart.specs.Ends.{after_all, Ends, put_out, Pair, freed_by, retired_by}
+use Rattle.lpt_apart.specs.TwoEnds.{CanAll, CanMove}
 use Rattle.lpt_c_end.specs.Accesses.{first_read, length_refusal, unready}
 use Rattle.lpt_c_end.specs.Changes.{IsFixed, delivery, expiry, giving_up, read_by}
 use Rattle.lpt_c_end.specs.Codes.{already_read, elsewhere, node_code, range, no_job}

@@ -2,7 +2,7 @@
 -- only as its node has them.
 use Rattle.std.proofs.Common.{◌≡◌, ◌∙◌, ap, sym, refl, ℕ, Bool, true, false, if◌then◌else◌, List, [], ◌∷◌, Option, Some, None, is_some}
 use Rattle.std.specs.FinMap as maps
-use Rattle.lpt_apart.specs.Clocks.{Own, own_config}
+use Rattle.lpt_apart.specs.TwoEnds.{Own, own_config}
 use Rattle.lpt_c_end.specs.Changes.{delivery, expiry, giving_up, read_by, execution_by}
 use Rattle.lpt_c_end.specs.Kept.{sizes_in}
 use Rattle.lpt_c_end.specs.declared.end.End.{End}

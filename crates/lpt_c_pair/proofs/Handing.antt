@@ -2,8 +2,8 @@
 use Rattle.std.proofs.Common.{◌≡◌, ◌∙◌, ap, sym, subst, refl, ℕ, List, [], ◌∷◌, Option, Some, None}
 use Rattle.std.specs.Option.{option_map}
 use Rattle.lpt_acts.specs.Acts as act
-use Rattle.lpt_apart.specs.Facts.{Left, Released, Log, AllDue, with_abortion}
-use Rattle.lpt_apart.specs.Steps.{with_release, with_report}
+use Rattle.lpt_apart.specs.Ends.{Left, Released, Log, with_abortion, with_release, with_report}
+use Rattle.lpt_apart.specs.TwoEnds.{AllDue}
 use Rattle.lpt_c_end.specs.Accesses.{IsAppliedGiven, first_read, length_refusal, unready}
 use Rattle.lpt_c_end.specs.Calls.{IsApplied}
 use Rattle.lpt_c_end.specs.Changes.{delivery}

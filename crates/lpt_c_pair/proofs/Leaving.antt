@@ -1,7 +1,6 @@
 -- Calls that execute nothing leave the memories.
 use Rattle.std.proofs.Common.{◌≡◌, ◌∙◌, ap, sym, refl, [], ◌∷◌, Some, None}
-use Rattle.lpt_apart.specs.Clocks.{after_all}
-use Rattle.lpt_apart.specs.Moves.{Pair}
+use Rattle.lpt_apart.specs.Ends.{after_all, Pair}
 use Rattle.lpt_c_end.specs.Accesses.{first_read, length_refusal, unready}
 use Rattle.lpt_c_end.specs.Codes.{elsewhere, no_job, node_code}
 use Rattle.lpt_c_end.specs.Kept.{elsewhere_refusal, here_refusal, memories_refusal}

@@ -1,8 +1,7 @@
 -- The worked run that drops a request and refuses one, computed by the definitions.
 use Rattle.std.proofs.Common.{◌∙◌, ap, sym, subst, refl, ℕ, ◌<◌, [], ◌∷◌, length, Some, None, inl, arith}
 use Rattle.lpt_acts.specs.Acts as act
-use Rattle.lpt_apart.specs.Facts.{Asked, Left, Released}
-use Rattle.lpt_apart.specs.Steps.{with_report}
+use Rattle.lpt_apart.specs.Ends.{Asked, Left, Released, with_report}
 use Rattle.lpt_packet.specs.Checksums.{checksum, octets_in, shift_all}
 use Rattle.lpt_packet.specs.Packets.{packet_seen, spelling}
 use Rattle.lpt_packet.specs.declared.direction.Direction.TheVariants.{Up}

@@ -1,7 +1,7 @@
 -- Refusals that don't refuse, and ends that became others.
 use Rattle.std.proofs.Common.{◌≡◌, ◌∙◌, ap, sym, refl, ℕ, Bool, true, false, if◌then◌else◌, List, Option, Some, None, is_some}
 use Rattle.std.specs.FinMap as maps
-use Rattle.lpt_apart.specs.Moves.{Pair}
+use Rattle.lpt_apart.specs.Ends.{Pair}
 use Rattle.lpt_c_end.specs.Changes.{IsFixed}
 use Rattle.lpt_c_end.specs.Codes.{clock_start, node_code}
 use Rattle.lpt_c_end.specs.Refusals.{sending_refusal}

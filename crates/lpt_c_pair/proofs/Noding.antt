@@ -22,10 +22,8 @@ use Rattle.lpt_node.specs.Nodes.{NodeData, is_open, no_data}
 use Rattle.lpt_node.specs.Restarts.{NoneOpen}
 use Rattle.lpt_state.specs.Lastings.{AreRuns, IsBoundAlike, IsEnd}
 use Rattle.lpt_acts.specs.Acts as act
-use Rattle.lpt_apart.specs.Clocks.{CanAll, after_all}
-use Rattle.lpt_apart.specs.Facts.{Asked, Left, Released, Restarted}
-use Rattle.lpt_apart.specs.Moves.{CanMove, Do}
-use Rattle.lpt_apart.specs.Steps.{Accept, with_report}
+use Rattle.lpt_apart.specs.Ends.{after_all, Asked, Left, Released, Restarted, Do, Accept, with_report}
+use Rattle.lpt_apart.specs.TwoEnds.{CanAll, CanMove}
 use Rattle.lpt_apart.specs.Deeds.{end_of}
 use Rattle.lpt_apart.specs.Resets.{IsWritable, just_written, CanLiveAll}
 use Rattle.lpt_c_pair.specs.Nodes.{NodesCanBe, lives, moves, new_pair, unwritten}

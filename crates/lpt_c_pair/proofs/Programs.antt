@@ -1,7 +1,7 @@
 -- The memories of the spacecraft's program, whatever it and the two ends do.
 use Rattle.std.proofs.Common.{◌≡◌, ◌∙◌, ap, sym, subst, refl, ℕ, ◌+◌, List, [], ◌∷◌, ◌++◌, length, Option, Some, None, arith}
 use Rattle.std.specs.Prelude.{⊤}
-use Rattle.lpt_apart.specs.Clocks.{later, Own, own_config}
+use Rattle.lpt_apart.specs.TwoEnds.{later, Own, own_config}
 use Rattle.lpt_apart.proofs.Clocks.{reached_keep}
 use Rattle.lpt_c_end.specs.Accesses.{first_read, length_refusal, unready}
 use Rattle.lpt_c_end.specs.Changes.{IsNew}

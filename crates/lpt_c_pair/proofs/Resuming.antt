@@ -2,7 +2,7 @@
 -- limits of the configuration in which it is restored.
 use Rattle.std.proofs.Common.{◌≡◌, ◌∙◌, ap, sym, refl, ℕ, List, Result, Ok, Err}
 use Rattle.lpt_acts.specs.Acts.{Limits, limits_of}
-use Rattle.lpt_apart.specs.Clocks.{Own, own_config}
+use Rattle.lpt_apart.specs.TwoEnds.{Own, own_config}
 use Rattle.lpt_c_end.specs.Keeping.{IsResumedWith}
 use Rattle.lpt_c_end.specs.declared.end.End.{End}
 use Rattle.lpt_c_end.specs.declared.kept.Kept.{Kept}

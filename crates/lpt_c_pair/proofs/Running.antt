@@ -1,8 +1,8 @@
 -- Two ends behind handles keep the promise, whatever calls are made of them.
 use Rattle.std.proofs.Common.{ap, sym, subst, refl, ℕ, List, [], ◌∷◌}
 use Rattle.lpt_acts.specs.Acts.{limits_of}
-use Rattle.lpt_apart.specs.Clocks.{later, no_pair_later, Own, own_config}
 use Rattle.lpt_apart.specs.Ends.{Ends}
+use Rattle.lpt_apart.specs.TwoEnds.{later, no_pair_later, Own, own_config}
 use Rattle.lpt_apart.proofs.Clocks.{IsReached, joined, begun_later, reached_keep}
 use Rattle.lpt_c_end.specs.Changes.{IsNew, IsNewWith}
 use Rattle.lpt_c_end.specs.Contents.{memories_told}

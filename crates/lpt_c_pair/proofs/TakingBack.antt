@@ -12,8 +12,7 @@ use Rattle.lpt_events.specs.declared.side.Side.TheVariants.{Ground, Craft}
 use Rattle.lpt_jobs.specs.declared.job.Job.TheVariants.{Waiting, Committed}
 use Rattle.lpt_ledger.specs.LeastFree.{first_of_numbers, least_free_in}
 use Rattle.lpt_acts.specs.Acts as act
-use Rattle.lpt_apart.specs.Facts.{Asked, Left, Released, Restarted}
-use Rattle.lpt_apart.specs.Steps.{with_report}
+use Rattle.lpt_apart.specs.Ends.{Asked, Left, Released, Restarted, with_report}
 use Rattle.lpt_execution.specs.Reporting.{request_source}
 use Rattle.lpt_memory.specs.Meanings.{body_meaning, meaning}
 use Rattle.lpt_memory.specs.Requests.{front_load_area, front_head, request_in}

@@ -1,8 +1,7 @@
 -- What came whole to two ends behind handles was released.
 use Rattle.std.proofs.Common.{◌≡◌, ◌∙◌, ap, sym, subst, refl, ℕ, List, [], ◌∷◌, ◌++◌}
-use Rattle.lpt_apart.specs.Clocks.{later, no_pair_later, after_all, CanAll, Own, own_config}
-use Rattle.lpt_apart.specs.Moves.{Pair, Move, pair_after, CanMove}
-use Rattle.lpt_apart.specs.Whole.{came_since, WithholdsNothing}
+use Rattle.lpt_apart.specs.Ends.{after_all, Pair, Move, pair_after}
+use Rattle.lpt_apart.specs.TwoEnds.{later, no_pair_later, CanAll, Own, own_config, CanMove, came_since, WithholdsNothing}
 use Rattle.lpt_apart.proofs.Clocks.{ends_with_clocks_withhold_nothing}
 use Rattle.lpt_c_end.specs.Contents.{memories_told}
 use Rattle.lpt_c_end.specs.declared.end.End.{End}

@@ -23,8 +23,7 @@ use Rattle.lpt_node.specs.Jobs.{executed_given}
 use Rattle.lpt_node.specs.Nodes.{NodeData, no_data}
 use Rattle.lpt_state.specs.Spellings.{state_spelled}
 use Rattle.lpt_acts.specs.Acts as act
-use Rattle.lpt_apart.specs.Facts.{Asked, Left, Released, Restarted}
-use Rattle.lpt_apart.specs.Steps.{with_report}
+use Rattle.lpt_apart.specs.Ends.{Asked, Left, Released, Restarted, with_report}
 use Rattle.lpt_c_end.specs.Accesses.{access_word, written_by}
 use Rattle.lpt_c_end.specs.Changes.{IsNew}
 use Rattle.lpt_c_end.specs.Codes.{nothing, read_length_fault}

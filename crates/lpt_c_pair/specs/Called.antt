@@ -2,8 +2,8 @@
 use Rattle.std.specs.Prelude.{◌≡◌, ℕ, List, [], ◌∷◌, ◌++◌, None, replicate}
 use Rattle.lpt_acts.specs.Acts as act
 use Rattle.lpt_acts.specs.Acts.{limits_of}
-use Rattle.lpt_apart.specs.Clocks.{Own}
-use Rattle.lpt_apart.specs.Facts.{Asked, Left, Log, Released, Restarted}
+use Rattle.lpt_apart.specs.Ends.{Asked, Left, Log, Released, Restarted}
+use Rattle.lpt_apart.specs.TwoEnds.{Own}
 use Rattle.lpt_c_end.specs.Changes.{IsNew}
 use Rattle.lpt_c_end.specs.Contents.{memories_told}
 use Rattle.lpt_c_end.specs.declared.end.End.{End}

@@ -3,8 +3,8 @@ use Rattle.std.specs.Prelude.{◌≡◌, ℕ, List, [], ◌∷◌, Ok, Option, S
 use Rattle.std.specs.List.{slice_get}
 use Rattle.std.specs.Option.{option_map}
 use Rattle.lpt_acts.specs.Acts as act
-use Rattle.lpt_apart.specs.Facts.{Left, Released, IsDue, Log, waiting}
-use Rattle.lpt_apart.specs.Steps.{with_report}
+use Rattle.lpt_apart.specs.Ends.{Left, Released, Log, with_report}
+use Rattle.lpt_apart.specs.TwoEnds.{IsDue, waiting}
 use Rattle.lpt_c_end.specs.Accesses.{IsAppliedGiven, first_read}
 use Rattle.lpt_c_end.specs.Calls.{IsApplied, IsTold, released_of as copied}
 use Rattle.lpt_c_end.specs.declared.end.End.{End}

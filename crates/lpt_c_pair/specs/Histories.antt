@@ -4,8 +4,7 @@
 -- A reset deletes the calls that its program made since it last kept its end. So what is left is a
 -- run of calls.
 use Rattle.std.specs.Prelude.{◌≡◌, ◌⊎◌, ℕ, List, [], ◌∷◌, ⊤}
-use Rattle.lpt_apart.specs.Clocks.{later, Own, own_config}
-use Rattle.lpt_apart.specs.Whole.{came_since, WithholdsNothing}
+use Rattle.lpt_apart.specs.TwoEnds.{later, Own, own_config, came_since, WithholdsNothing}
 use Rattle.lpt_c_end.specs.Changes.{IsNew}
 use Rattle.lpt_c_end.specs.Contents.{memories_told}
 use Rattle.lpt_c_end.specs.declared.end.End.{End}

@@ -2,7 +2,7 @@
 -- one.
 use Rattle.std.specs.Prelude.{◌≡◌, List, [], ◌∷◌, length, None}
 use Rattle.lpt_acts.specs.Acts as act
-use Rattle.lpt_apart.specs.Facts.{Asked, Left, Log, Released}
+use Rattle.lpt_apart.specs.Ends.{Asked, Left, Log, Released}
 use Rattle.lpt_c_end.specs.Changes.{IsNew}
 use Rattle.lpt_c_end.specs.Contents.{memories_told}
 use Rattle.lpt_c_end.specs.declared.end.End.{End}

@@ -2,9 +2,8 @@
 -- reset.
 use Rattle.std.specs.Prelude.{◌≡◌, List, [], ◌∷◌}
 use Rattle.lpt_acts.specs.Acts.{Execute}
-use Rattle.lpt_apart.specs.Clocks.{after_all, no_pair_later}
-use Rattle.lpt_apart.specs.Moves.{Do, Move, Pair}
-use Rattle.lpt_apart.specs.Steps.{Accept, Apply, Claim, Commit, Plain}
+use Rattle.lpt_apart.specs.Ends.{after_all, Do, Move, Pair, Accept, Apply, Claim, Commit, Plain}
+use Rattle.lpt_apart.specs.TwoEnds.{no_pair_later}
 use Rattle.lpt_apart.specs.Deeds.{Kept, with_restart}
 use Rattle.lpt_apart.specs.Resets.{CanLiveAll, Deed, Make, Reset, Write, just_written, lived_all}
 use Rattle.lpt_c_pair.specs.Called.{called_log, usual_own}

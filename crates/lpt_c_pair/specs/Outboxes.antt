@@ -1,7 +1,7 @@
 -- What waits in an end's outbox, until the program has copied it and says that it is sent.
 use Rattle.std.specs.Prelude.{◌≡◌, ℕ, false, List, [], ◌∷◌, ⊤}
 use Rattle.lpt_apart.specs.Ends.{Ends, is_part}
-use Rattle.lpt_apart.specs.Steps.{IsOnTheWay}
+use Rattle.lpt_apart.specs.TwoEnds.{IsOnTheWay}
 use Rattle.lpt_c_end.specs.declared.end.End.{End}
 use Rattle.lpt_packet.specs.declared.direction.Direction.{Direction}
 use Rattle.lpt_packet.specs.declared.direction.Direction.TheVariants.{Up, Down}

@@ -2,10 +2,9 @@
 use Rattle.std.specs.Prelude.{◌≡◌, ℕ, ◌+◌, ◌<◌, ◌^◌, List, [], ◌∷◌, None, Some, ⊤}
 use Rattle.lpt_acts.specs.Acts as act
 use Rattle.lpt_acts.specs.Acts.{Back, IsAct, On}
-use Rattle.lpt_apart.specs.Clocks.{Own, own_config, after_all, CanAll}
-use Rattle.lpt_apart.specs.Moves.{Pair, Move, Do, Free, CanMove}
-use Rattle.lpt_apart.specs.Steps as step
-use Rattle.lpt_apart.specs.Steps.{MayCome}
+use Rattle.lpt_apart.specs.Ends.{after_all, Pair, Move, Do, Free}
+use Rattle.lpt_apart.specs.TwoEnds.{Own, own_config, CanAll, CanMove, MayCome}
+use Rattle.lpt_apart.specs.Ends as step
 use Rattle.lpt_apart.specs.Deeds.{with_restart}
 use Rattle.lpt_c_end.specs.Accesses.{IsExecutedGiven, drop_read_refusal, given_refusal}
 use Rattle.lpt_c_end.specs.Changes.{IsOpened, IsPartMade, IsPlainMade, IsFinished, IsLetGo, IsDelivered, IsExpired, IsGivenUp, IsTicked, IsRebased, IsRead, IsDropped, IsExecuted, IsRetired, IsRestarted, IsSame}

@@ -1,8 +1,7 @@
 -- Two ends behind handles, when the spacecraft's program has the memories: what it writes, and
 -- what they are.
 use Rattle.std.specs.Prelude.{◌≡◌, ℕ, ◌+◌, List, [], ◌∷◌, ◌++◌, length, Ok, Err, Some, ⊤}
-use Rattle.lpt_apart.specs.Clocks.{later, Own, own_config}
-use Rattle.lpt_apart.specs.Facts.{requests_executed}
+use Rattle.lpt_apart.specs.TwoEnds.{later, Own, own_config, requests_executed}
 use Rattle.lpt_c_end.specs.Accesses.{IsAccess, written_by}
 use Rattle.lpt_c_end.specs.Changes.{IsNew}
 use Rattle.lpt_c_end.specs.Codes.{nothing}

@@ -4,8 +4,7 @@
 -- A reset deletes what its program did since it last kept its end, but for what was written over
 -- memories: those stay as they are.
 use Rattle.std.specs.Prelude.{◌≡◌, ℕ, List, [], ◌∷◌, ◌++◌, ⊤}
-use Rattle.lpt_apart.specs.Clocks.{later, Own, own_config}
-use Rattle.lpt_apart.specs.Whole.{came_since, WithholdsNothing}
+use Rattle.lpt_apart.specs.TwoEnds.{later, Own, own_config, came_since, WithholdsNothing}
 use Rattle.lpt_c_end.specs.Changes.{IsNew}
 use Rattle.lpt_c_end.specs.Sizes.{sizes_said, IsNewSized}
 use Rattle.lpt_c_end.specs.declared.end.End.{End}

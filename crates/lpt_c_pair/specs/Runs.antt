@@ -1,8 +1,7 @@
 -- Runs of two ends behind handles, and what is promised of them.
 use Rattle.std.specs.Prelude.{ℕ, List, [], ◌∷◌, ⊤}
-use Rattle.lpt_apart.specs.Clocks.{later, no_pair_later, after_all, Own, own_config}
-use Rattle.lpt_apart.specs.Moves.{Pair}
-use Rattle.lpt_apart.specs.Worlds.{IsPromised}
+use Rattle.lpt_apart.specs.Ends.{after_all, Pair}
+use Rattle.lpt_apart.specs.TwoEnds.{later, no_pair_later, Own, own_config, IsPromised}
 use Rattle.lpt_c_end.specs.Changes.{IsNew}
 use Rattle.lpt_c_end.specs.Contents.{memories_told}
 use Rattle.lpt_c_end.specs.declared.end.End.{End}

@@ -2,7 +2,8 @@
 -- request for which it had written, and is reset.
 use Rattle.std.specs.Prelude.{◌≡◌, List, [], ◌∷◌, None}
 use Rattle.lpt_acts.specs.Acts as act
-use Rattle.lpt_apart.specs.Facts.{Asked, Left, Log, Released, Restarted, requests_executed}
+use Rattle.lpt_apart.specs.Ends.{Asked, Left, Log, Released, Restarted}
+use Rattle.lpt_apart.specs.TwoEnds.{requests_executed}
 use Rattle.lpt_c_pair.specs.Called.{usual_own}
 use Rattle.lpt_c_end.specs.Changes.{IsNew}
 use Rattle.lpt_c_end.specs.Sizes.{IsNewSized}

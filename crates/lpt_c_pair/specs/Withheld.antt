@@ -1,8 +1,7 @@
 -- Two ends behind handles withhold nothing that came whole.
 use Rattle.std.specs.Prelude.{◌≡◌, ℕ, List, [], ◌∷◌, ◌++◌}
-use Rattle.lpt_apart.specs.Clocks.{later, no_pair_later, Own, own_config}
-use Rattle.lpt_apart.specs.Moves.{Move}
-use Rattle.lpt_apart.specs.Whole.{came_since, WithholdsNothing}
+use Rattle.lpt_apart.specs.Ends.{Move}
+use Rattle.lpt_apart.specs.TwoEnds.{later, no_pair_later, Own, own_config, came_since, WithholdsNothing}
 use Rattle.lpt_c_end.specs.Changes.{IsNew}
 use Rattle.lpt_c_end.specs.Contents.{memories_told}
 use Rattle.lpt_c_end.specs.Sizes.{sizes_said, IsNewSized}

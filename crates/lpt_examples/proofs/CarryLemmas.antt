@@ -18,10 +18,9 @@ use Rattle.lpt_node.specs.Nodes.{NodeData, NodeView, new_node}
 use Rattle.lpt_node.specs.ParsedViews.{arrival_at}
 use Rattle.lpt_node.specs.Sending.{refusal_open, message_opened, refusal_send, part_sent}
 use Rattle.lpt_model.specs.State.{as_list, released_of}
-use Rattle.lpt_apart.specs.Ends.{Ends, put_out}
-use Rattle.lpt_apart.specs.Facts.{AllDue, Log, message_awaited, with_abortion}
-use Rattle.lpt_apart.specs.Moves.{Do, came_to}
-use Rattle.lpt_apart.specs.Steps.{Open, Send, Accept, IsOnTheWay, accepted_on, with_release}
+use Rattle.lpt_apart.specs.Ends.{Ends, put_out, Log, with_abortion, Do, Open, Send, Accept, accepted_on, with_release}
+use Rattle.lpt_apart.specs.TwoEnds.{AllDue, message_awaited, IsOnTheWay}
+use Rattle.lpt_apart.specs.Moves.{came_to}
 use Rattle.lpt_apart.proofs.Moving.{ends_apart_keep_the_promise}
 use Rattle.lpt_examples.specs.Carrying.{Stands, Carries, HasReleased, is_whole, is_broken}
 

@@ -12,9 +12,9 @@ use Rattle.lpt_node.specs.Accepting.{packet_accepted}
 use Rattle.lpt_node.specs.declared.accepted.Accepted.{Accepted}
 use Rattle.lpt_node.specs.Nodes.{NodeView}
 use Rattle.lpt_node.specs.ParsedViews.{arrival_at}
-use Rattle.lpt_apart.specs.Facts.{message_awaited}
-use Rattle.lpt_apart.specs.Moves.{Move, came_to, CanMoveAll}
-use Rattle.lpt_apart.specs.Steps.{IsOnTheWay}
+use Rattle.lpt_apart.specs.Ends.{Move}
+use Rattle.lpt_apart.specs.TwoEnds.{message_awaited, IsOnTheWay}
+use Rattle.lpt_apart.specs.Moves.{came_to, CanMoveAll}
 
 -- Moves led to these two nodes, and what may come out of the network going up is on the way.
 pub record Stands (g k : NodeView) (may_come : List ℕ → Type 0) : Type 0 where

@@ -11,7 +11,8 @@ use Rattle.lpt_events.proofs.LaneLemmas.{same_direction-true}
 use Rattle.lpt_journal.specs.Jobs.{went_up}
 use Rattle.lpt_journal.proofs.TestLemmas.{place_in, no_place}
 use Rattle.lpt_acts.specs.Acts.{Execute, Refuse, Drop}
-use Rattle.lpt_apart.specs.Facts.{Fact, Opened, Asked, Released, Aborted, Left, Retired, Restarted, Log, is_same, message_awaited, waiting, requests_executed, IsDue, AllDue}
+use Rattle.lpt_apart.specs.Ends.{Fact, Opened, Asked, Released, Aborted, Left, Retired, Restarted, Log, is_same}
+use Rattle.lpt_apart.specs.TwoEnds.{message_awaited, waiting, requests_executed, IsDue, AllDue}
 use Rattle.lpt_passes.specs.Asked.{IsOfGroundIn, ExecutedWasAsked}
 
 -- what was ground's is so after a fact

@@ -16,7 +16,7 @@ use Rattle.lpt_requests.specs.declared.reading_failures.RequestReport.{RequestRe
 use Rattle.lpt_requests.specs.Failures.{any_report_in, success_of}
 use Rattle.lpt_requests.proofs.FailureLemmas.{success-read}
 use Rattle.lpt_events.specs.declared.config.Config.{Config}
-use Rattle.lpt_apart.specs.Moves.{Move}
+use Rattle.lpt_apart.specs.Ends.{Move}
 use Rattle.lpt_passes.specs.Reported.{IsVerification}
 use Rattle.lpt_passes.specs.Passes.{AllHeard, WasHeard}
 use Rattle.lpt_ground.specs.declared.asked.Asked.{Asked}

@@ -34,10 +34,9 @@ use Rattle.lpt_journal.specs.Journal.{History}
 use Rattle.lpt_journal.specs.Replies.{entry, history_after}
 use Rattle.lpt_journal.specs.Senders.{opened}
 use Rattle.lpt_journal.proofs.TestLemmas.{no_place}
-use Rattle.lpt_apart.specs.Ends.{Ends, node_at}
-use Rattle.lpt_apart.specs.Facts.{Fact, Opened, Asked, Released, Aborted, Left, Retired, Restarted, Log, with_abortion, requests_executed, AllDue, IsDue}
-use Rattle.lpt_apart.specs.Moves.{Pair, Move, Do, Free, pair_after, came_to, CanMove, CanMoveAll}
-use Rattle.lpt_apart.specs.Steps.{Open, Send, Plain, Finish, Accept, Tick, Expire, Claim, Commit, Apply, Retire, Restart, with_release, with_report, committed_on}
+use Rattle.lpt_apart.specs.Ends.{Ends, node_at, Fact, Opened, Asked, Released, Aborted, Left, Retired, Restarted, Log, with_abortion, Pair, Move, Do, Free, pair_after, Open, Send, Plain, Finish, Accept, Tick, Expire, Claim, Commit, Apply, Retire, Restart, with_release, with_report, committed_on}
+use Rattle.lpt_apart.specs.TwoEnds.{requests_executed, AllDue, IsDue, CanMove}
+use Rattle.lpt_apart.specs.Moves.{came_to, CanMoveAll}
 use Rattle.lpt_apart.specs.Told.{with_openings}
 use Rattle.lpt_apart.proofs.Lessening.{left_less}
 use Rattle.lpt_apart.proofs.Logs.{opened_told}

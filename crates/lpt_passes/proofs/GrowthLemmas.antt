@@ -24,10 +24,9 @@ use Rattle.lpt_node.specs.Requests.{plain_made}
 use Rattle.lpt_node.specs.Times.{expired_of, which_ends}
 use Rattle.lpt_model.specs.State.{job_left, released_of}
 use Rattle.lpt_model.specs.Tickets.{ticket_of}
-use Rattle.lpt_apart.specs.Ends.{Ends, node_at}
-use Rattle.lpt_apart.specs.Facts.{Fact, Opened, Asked, Released, Aborted, Left, Retired, Restarted, Log, with_abortion, waiting, requests_executed}
-use Rattle.lpt_apart.specs.Moves.{Pair, Move, Do, Free, pair_after, came_to, CanMoveAll}
-use Rattle.lpt_apart.specs.Steps.{Open, Send, Plain, Finish, Accept, Tick, Expire, Claim, Commit, Apply, Retire, Restart, with_release, with_report, requested_on, accepted_on, expired_on, committed_on, left_on}
+use Rattle.lpt_apart.specs.Ends.{Ends, node_at, Fact, Opened, Asked, Released, Aborted, Left, Retired, Restarted, Log, with_abortion, Pair, Move, Do, Free, pair_after, Open, Send, Plain, Finish, Accept, Tick, Expire, Claim, Commit, Apply, Retire, Restart, with_release, with_report, requested_on, accepted_on, expired_on, committed_on, left_on}
+use Rattle.lpt_apart.specs.TwoEnds.{waiting, requests_executed}
+use Rattle.lpt_apart.specs.Moves.{came_to, CanMoveAll}
 use Rattle.lpt_journal.proofs.TestLemmas.{no_place}
 
 -- what a log has as executed another has too, at the same place

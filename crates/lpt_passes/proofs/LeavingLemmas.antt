@@ -8,8 +8,9 @@ use Rattle.lpt_memory.specs.Memories.{Contents, content_of, sizes_of}
 use Rattle.lpt_memory.specs.Overlaps.{Covers}
 use Rattle.lpt_events.specs.Configs.{IsConfig}
 use Rattle.lpt_events.specs.declared.config.Config.{Config}
-use Rattle.lpt_apart.specs.Facts.{requests_executed}
-use Rattle.lpt_apart.specs.Moves.{Move, came_to, CanMoveAll}
+use Rattle.lpt_apart.specs.Ends.{Move}
+use Rattle.lpt_apart.specs.TwoEnds.{requests_executed}
+use Rattle.lpt_apart.specs.Moves.{came_to, CanMoveAll}
 use Rattle.lpt_passes.specs.Images.{Agrees, Image, IsLoaded, IsTrueTo, LoadsOctet, Stands}
 use Rattle.lpt_ground.specs.declared.asked.Asked.{Asked}
 use Rattle.lpt_ground.specs.declared.asked.Terms.{Terms}

@@ -17,10 +17,9 @@ use Rattle.lpt_journal.specs.Journal.{History}
 use Rattle.lpt_journal.specs.Legal.{Legal}
 use Rattle.lpt_journal.specs.Link.{sent}
 use Rattle.lpt_journal.specs.Replies.{history_after}
-use Rattle.lpt_apart.specs.Ends.{Ends}
-use Rattle.lpt_apart.specs.Facts.{Log, requests_executed}
-use Rattle.lpt_apart.specs.Moves.{Pair, Move, came_to, CanMoveAll}
-use Rattle.lpt_apart.specs.Steps.{IsOnTheWay}
+use Rattle.lpt_apart.specs.Ends.{Ends, Log, Pair, Move}
+use Rattle.lpt_apart.specs.TwoEnds.{requests_executed, IsOnTheWay}
+use Rattle.lpt_apart.specs.Moves.{came_to, CanMoveAll}
 use Rattle.lpt_apart.proofs.Links.{held_at}
 use Rattle.lpt_apart.proofs.Moving.{apart, ends_apart_keep_the_promise}
 use Rattle.lpt_apart.proofs.Queues.{executed_told}

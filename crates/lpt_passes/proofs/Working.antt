@@ -27,9 +27,9 @@ use Rattle.lpt_events.specs.Configs.{IsConfig}
 use Rattle.lpt_execution.specs.Reporting.{opened_of, request_source}
 use Rattle.lpt_node.specs.Nodes.{no_data}
 use Rattle.lpt_acts.specs.Acts.{Execute}
-use Rattle.lpt_apart.specs.Facts.{Asked as AskedFor, Left, Log, Opened, Released}
+use Rattle.lpt_apart.specs.Ends.{Asked as AskedFor, Left, Log, Opened, Released, with_report}
+use Rattle.lpt_apart.specs.TwoEnds.{IsOnTheWay}
 use Rattle.lpt_apart.specs.Moves.{came_to, CanMoveAll}
-use Rattle.lpt_apart.specs.Steps.{IsOnTheWay, with_report}
 use Rattle.lpt_passes.specs.Passes.{IsAloneIn}
 use Rattle.lpt_ground.specs.declared.asked.Asked.{Asked}
 use Rattle.lpt_ground.specs.declared.asked.Awaits.TheVariants.{Completion}

@@ -6,7 +6,8 @@ use Rattle.lpt_memory.specs.Meanings.{meaning}
 use Rattle.lpt_memory.specs.Memories.{Contents, sizes_of}
 use Rattle.lpt_events.specs.declared.config.Config.{Config}
 use Rattle.lpt_execution.specs.Reporting.{request_source}
-use Rattle.lpt_apart.specs.Facts.{Log, requests_executed}
+use Rattle.lpt_apart.specs.Ends.{Log}
+use Rattle.lpt_apart.specs.TwoEnds.{requests_executed}
 use Rattle.lpt_passes.specs.Images.{Image, IsTrueTo}
 use Rattle.lpt_passes.specs.Passes.{IsAloneIn}
 

@@ -7,7 +7,8 @@ use Rattle.lpt_memory.specs.Ranges.{AreasFit}
 use Rattle.lpt_requests.specs.Cuts.{AreasCut, areas_fault, as_load}
 use Rattle.lpt_events.specs.Configs.{IsConfig}
 use Rattle.lpt_events.specs.declared.config.Config.{Config}
-use Rattle.lpt_apart.specs.Moves.{Move, came_to, CanMoveAll}
+use Rattle.lpt_apart.specs.Ends.{Move}
+use Rattle.lpt_apart.specs.Moves.{came_to, CanMoveAll}
 use Rattle.lpt_passes.specs.Images.{Agrees, Image, Stands}
 use Rattle.lpt_ground.specs.declared.asked.Asked.{Asked}
 use Rattle.lpt_ground.specs.declared.asked.Terms.{Terms}

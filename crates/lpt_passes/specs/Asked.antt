@@ -2,7 +2,8 @@
 use Rattle.std.specs.Prelude.{◌≡◌, ◌⊎◌, ℕ, List, slice_get, Some}
 use Rattle.lpt_packet.specs.declared.direction.Direction.TheVariants.{Up}
 use Rattle.lpt_packet.specs.Names.{Name}
-use Rattle.lpt_apart.specs.Facts.{Log, Opened, Asked, requests_executed, AllDue}
+use Rattle.lpt_apart.specs.Ends.{Log, Opened, Asked}
+use Rattle.lpt_apart.specs.TwoEnds.{requests_executed, AllDue}
 
 -- ground asked for the message by a plain request, or opened it as a large one
 abbrev pub IsOfGroundIn : Log → List ℕ → Type 0

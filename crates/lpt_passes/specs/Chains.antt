@@ -6,8 +6,9 @@ use Rattle.lpt_pus.specs.Telemetry.{Telemetry}
 use Rattle.lpt_memory.specs.Memories.{Contents, content_of}
 use Rattle.lpt_events.specs.Configs.{IsConfig}
 use Rattle.lpt_events.specs.declared.config.Config.{Config}
-use Rattle.lpt_apart.specs.Moves.{Move, came_to, CanMoveAll}
-use Rattle.lpt_apart.specs.Steps.{IsOnTheWay}
+use Rattle.lpt_apart.specs.Ends.{Move}
+use Rattle.lpt_apart.specs.TwoEnds.{IsOnTheWay}
+use Rattle.lpt_apart.specs.Moves.{came_to, CanMoveAll}
 use Rattle.lpt_passes.specs.Images.{Image, Stands}
 use Rattle.lpt_passes.specs.Passes.{AllHeard, IsPass}
 use Rattle.lpt_ground.specs.declared.asked.Asked.{Asked}

@@ -12,9 +12,9 @@ use Rattle.lpt_events.specs.Configs.{IsConfig}
 use Rattle.lpt_events.specs.declared.config.Config.{Config}
 use Rattle.lpt_execution.specs.Reporting.{request_source}
 use Rattle.lpt_journal.specs.Jobs.{left_by}
-use Rattle.lpt_apart.specs.Facts.{Log, Opened, Asked, Released, requests_executed}
-use Rattle.lpt_apart.specs.Moves.{Pair, Move, Do, came_to, CanMoveAll}
-use Rattle.lpt_apart.specs.Steps.{Open, IsOnTheWay}
+use Rattle.lpt_apart.specs.Ends.{Log, Opened, Asked, Released, Pair, Move, Do, Open}
+use Rattle.lpt_apart.specs.TwoEnds.{requests_executed, IsOnTheWay}
+use Rattle.lpt_apart.specs.Moves.{came_to, CanMoveAll}
 use Rattle.lpt_passes.specs.Alone.{IsNamed}
 use Rattle.lpt_passes.specs.Images.{Image, AreTrueTo, IsLoaded, Stands}
 use Rattle.lpt_passes.specs.Reported.{IsTelemetryDown, IsVerification}

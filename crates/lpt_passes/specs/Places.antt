@@ -5,7 +5,8 @@ use Rattle.lpt_memory.specs.declared.request.Area.{Area}
 use Rattle.lpt_memory.specs.Memories.{Contents, content_of}
 use Rattle.lpt_events.specs.Configs.{IsConfig}
 use Rattle.lpt_events.specs.declared.config.Config.{Config}
-use Rattle.lpt_apart.specs.Moves.{Move, came_to, CanMoveAll}
+use Rattle.lpt_apart.specs.Ends.{Move}
+use Rattle.lpt_apart.specs.Moves.{came_to, CanMoveAll}
 use Rattle.lpt_passes.specs.Images.{Image, Stands}
 use Rattle.lpt_ground.specs.Carrying.{Answer, packets_of}
 use Rattle.lpt_passes.specs.Chains.{WerePutOut, messages_of}

@@ -4,8 +4,8 @@ use Rattle.lpt_packet.specs.declared.direction.Direction.TheVariants.{Up}
 use Rattle.lpt_events.specs.Configs.{IsConfig}
 use Rattle.lpt_events.specs.declared.worker.Worker.TheVariants.{W1}
 use Rattle.lpt_acts.specs.Acts.{Execute}
-use Rattle.lpt_apart.specs.Moves.{Do, Move, came_to, CanMoveAll}
-use Rattle.lpt_apart.specs.Steps.{Plain, Accept, Claim, Commit, Apply}
+use Rattle.lpt_apart.specs.Ends.{Do, Move, Plain, Accept, Claim, Commit, Apply}
+use Rattle.lpt_apart.specs.Moves.{came_to, CanMoveAll}
 use Rattle.lpt_ground.specs.Carrying.{Answer, Came, Nothing, packets_of}
 use Rattle.lpt_passes.specs.Chains.{WerePutOut}
 use Rattle.lpt_c_ground.specs.Jobs.{terms_of}

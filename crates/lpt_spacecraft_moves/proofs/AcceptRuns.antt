@@ -20,8 +20,8 @@ use Rattle.lpt_table.specs.Offering.{OfferKind, part_offered}
 use Rattle.lpt_table.specs.Offering as offering
 use Rattle.lpt_table.specs.Tables.{Entries, TableState}
 use Rattle.lpt_model.specs.State.{as_list}
-use Rattle.lpt_apart.specs.Moves.{Pair, Do, CanMove}
-use Rattle.lpt_apart.specs.Steps.{Accept}
+use Rattle.lpt_apart.specs.Ends.{Pair, Do, Accept}
+use Rattle.lpt_apart.specs.TwoEnds.{CanMove}
 use Rattle.lpt_spacecraft.specs.Serving.{Onboard}
 use Rattle.lpt_spacecraft.specs.Streams.{WaitsFor}
 use Rattle.lpt_spacecraft_moves.specs.Moves.{octets_of, IsCraftOf}

@@ -10,9 +10,7 @@ use Rattle.lpt_ledger.specs.declared.state.State.{State}
 use Rattle.lpt_ledger.specs.declared.state.State.TheVariants.{Free, Open, Closed}
 use Rattle.lpt_node.specs.Nodes.{NodeData}
 use Rattle.lpt_node.specs.Restarts.{name_retired}
-use Rattle.lpt_apart.specs.Moves.{Pair, Do, pair_after}
-use Rattle.lpt_apart.specs.Moves.{Free as FreeUp}
-use Rattle.lpt_apart.specs.Steps.{Retire}
+use Rattle.lpt_apart.specs.Ends.{Pair, Do, pair_after, Free as FreeUp, Retire}
 use Rattle.lpt_spacecraft.specs.Flights.{names_cleared, freed_as, is_closed, is_due, state_of, told_first}
 use Rattle.lpt_spacecraft.specs.Uses.{NameUse}
 use Rattle.lpt_spacecraft.specs.declared.told.Told.{Told}

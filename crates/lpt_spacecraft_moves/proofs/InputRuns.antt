@@ -14,8 +14,8 @@ use Rattle.lpt_node.specs.Accepting.{packet_accepted}
 use Rattle.lpt_node.specs.Jobs.{job_executed}
 use Rattle.lpt_model.specs.Tickets.{no_tickets}
 use Rattle.lpt_packet.specs.declared.direction.Direction.TheVariants.{Up}
-use Rattle.lpt_apart.specs.Moves.{Pair, Do, CanMove}
-use Rattle.lpt_apart.specs.Steps.{Accept}
+use Rattle.lpt_apart.specs.Ends.{Pair, Do, Accept}
+use Rattle.lpt_apart.specs.TwoEnds.{CanMove}
 use Rattle.lpt_spacecraft.specs.Flights.{Flight, Input, Astray, Came, Ticked, Cleared, names_cleared}
 use Rattle.lpt_spacecraft.specs.Serving.{Onboard, all_sent, beaten, read_over, packet_taken, request_worked, worked_if}
 use Rattle.lpt_spacecraft.specs.Streams.{WaitsFor}

@@ -13,12 +13,8 @@ use Rattle.lpt_node.specs.Restarts.{node_restarted}
 use Rattle.lpt_state.specs.Lastings.{restarted_node}
 use Rattle.lpt_state.specs.Verdicts.{reading}
 use Rattle.lpt_state.proofs.LawLemmas.{written_is_read}
-use Rattle.lpt_apart.specs.Clocks.{after_all, later, no_pair_later, own_config, CanAll}
-use Rattle.lpt_apart.specs.Facts.{AllDue}
-use Rattle.lpt_apart.specs.Moves.{Pair, Move, Do, Free, CanMove, pair_after}
-use Rattle.lpt_apart.specs.Steps.{Accept, Expire, Finish, Open, Plain, Restart, Retire, Send, Tick}
-use Rattle.lpt_apart.specs.Whole.{came_since, WithholdsNothing}
-use Rattle.lpt_apart.specs.Worlds.{IsPromised}
+use Rattle.lpt_apart.specs.Ends.{after_all, Pair, Move, Do, Free, pair_after, Accept, Expire, Finish, Open, Plain, Restart, Retire, Send, Tick}
+use Rattle.lpt_apart.specs.TwoEnds.{later, no_pair_later, own_config, CanAll, AllDue, CanMove, came_since, WithholdsNothing, IsPromised}
 use Rattle.lpt_apart.proofs.Clocks.{ends_with_clocks_keep_the_promise, ends_with_clocks_withhold_nothing}
 use Rattle.lpt_spacecraft.specs.Flights.{Flight, Input, Astray, Came, Cleared, Ticked, new_flight}
 use Rattle.lpt_spacecraft.specs.Serving.{Onboard, new_end}

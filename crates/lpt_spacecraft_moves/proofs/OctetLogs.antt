@@ -16,9 +16,8 @@ use Rattle.lpt_model.specs.State.{released_of, job_left}
 use Rattle.lpt_model.specs.Tickets.{ticket_of}
 use Rattle.lpt_node.specs.Accepting.{packet_accepted}
 use Rattle.lpt_node.specs.declared.accepted.Accepted.{Accepted}
-use Rattle.lpt_apart.specs.Facts.{Fact, Opened, Asked, Released, Aborted, Left, Retired, Restarted, Log, message_awaited, is_of_it, is_same, with_abortion, AllDue, IsDue}
-use Rattle.lpt_apart.specs.Moves.{Pair, Move, Do, Free, CanMove, pair_after}
-use Rattle.lpt_apart.specs.Steps.{Open, Send, Plain, Finish, Accept, Tick, Expire, Claim, Commit, Apply, Retire, Restart, committed_on, with_release, with_report}
+use Rattle.lpt_apart.specs.Ends.{Fact, Opened, Asked, Released, Aborted, Left, Retired, Restarted, Log, is_same, with_abortion, Pair, Move, Do, Free, pair_after, Open, Send, Plain, Finish, Accept, Tick, Expire, Claim, Commit, Apply, Retire, Restart, committed_on, with_release, with_report}
+use Rattle.lpt_apart.specs.TwoEnds.{message_awaited, is_of_it, AllDue, IsDue, CanMove}
 
 -- what ground opened or asked is octets
 abbrev IsOfOctets : Fact → Type 0

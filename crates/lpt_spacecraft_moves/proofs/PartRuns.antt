@@ -17,8 +17,7 @@ use Rattle.lpt_node.specs.Nodes.{Messages, NodeData, message_at}
 use Rattle.lpt_node.specs.Sending.{sender_closed, refusal_finish, refusal_finish_in, refusal_send, refusal_send_of, part_sent, sent_of}
 use Rattle.lpt_node.specs.declared.fault.NodeFault.TheVariants.{NoSuchPart}
 use Rattle.lpt_model.specs.Tickets.{no_tickets}
-use Rattle.lpt_apart.specs.Moves.{Pair, Do}
-use Rattle.lpt_apart.specs.Steps.{Finish, Send}
+use Rattle.lpt_apart.specs.Ends.{Pair, Do, Finish, Send}
 use Rattle.lpt_spacecraft.specs.Serving.{Onboard, all_sent, first_sent}
 use Rattle.lpt_spacecraft.proofs.ServingLemmas.{sent-jobs}
 use Rattle.lpt_spacecraft_moves.specs.Moves.{after_moves, octets_of}

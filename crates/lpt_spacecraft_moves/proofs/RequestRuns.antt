@@ -11,10 +11,8 @@ use Rattle.lpt_memory.specs.Memories.{Contents}
 use Rattle.lpt_node.specs.Jobs.{Execution, job_claimed, job_executed, refusal_apply_of, refusal_claim_of}
 use Rattle.lpt_node.specs.Nodes.{NodeData}
 use Rattle.lpt_model.specs.Tickets.{Tickets, no_tickets, ticket_of, with_ticket}
-use Rattle.lpt_apart.specs.Ends.{put_out}
-use Rattle.lpt_apart.specs.Moves.{Pair, Move, Do}
+use Rattle.lpt_apart.specs.Ends.{put_out, Pair, Move, Do, Apply, Claim, Commit}
 use Rattle.lpt_acts.specs.Acts.{Execute}
-use Rattle.lpt_apart.specs.Steps.{Apply, Claim, Commit}
 use Rattle.lpt_spacecraft.specs.Serving.{Onboard, read_over}
 use Rattle.lpt_spacecraft.proofs.ServingLemmas.{read_over-jobs}
 use Rattle.lpt_spacecraft_moves.specs.Moves.{after_moves, octets_of, CanMakeAll}

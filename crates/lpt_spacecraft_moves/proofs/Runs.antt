@@ -8,8 +8,7 @@ use Rattle.lpt_packet.specs.Names.{Name}
 use Rattle.lpt_events.specs.declared.config.Config.{Config}
 use Rattle.lpt_model.specs.State.{as_list}
 use Rattle.lpt_model.specs.Tickets.{no_tickets}
-use Rattle.lpt_apart.specs.Ends.{PutOut, put_out}
-use Rattle.lpt_apart.specs.Moves.{Pair, Move, pair_after}
+use Rattle.lpt_apart.specs.Ends.{PutOut, put_out, Pair, Move, pair_after}
 use Rattle.lpt_spacecraft.specs.Serving.{Onboard}
 use Rattle.lpt_spacecraft_moves.specs.Moves.{after_moves, octets_of, CanMakeAll, IsOfCraft}
 

@@ -12,8 +12,7 @@ use Rattle.lpt_node.specs.Nodes.{NodeData}
 use Rattle.lpt_node.specs.Times.{due, reception_expired, expired_of, refusal_expire, refusal_expire_of, refusal_tick, clock_ticked}
 use Rattle.lpt_model.specs.State.{as_list}
 use Rattle.lpt_model.specs.Tickets.{no_tickets}
-use Rattle.lpt_apart.specs.Moves.{Pair, Do}
-use Rattle.lpt_apart.specs.Steps.{Expire, Tick}
+use Rattle.lpt_apart.specs.Ends.{Pair, Do, Expire, Tick}
 use Rattle.lpt_spacecraft.specs.Serving.{Onboard, beaten, first_expired, ticked_by}
 use Rattle.lpt_spacecraft_moves.specs.Moves.{after_moves, octets_of}
 use Rattle.lpt_spacecraft_moves.proofs.Runs.{Reaches, as_list-same, octets-put, reaches-nothing, reaches-then}

@@ -10,11 +10,8 @@ use Rattle.lpt_state.specs.Lastings.{IsEnd}
 use Rattle.lpt_state.specs.Spellings.{state_spelled}
 use Rattle.lpt_state.specs.Verdicts.{reading}
 use Rattle.lpt_acts.specs.Acts.{limits_of}
-use Rattle.lpt_apart.specs.Clocks.{Own, later, no_pair_later}
-use Rattle.lpt_apart.specs.Moves.{Pair, Move, Do, Free, CanMove, pair_after}
-use Rattle.lpt_apart.specs.Steps.{Accept, Expire, Finish, Open, Plain, Restart, Retire, Send, Tick}
-use Rattle.lpt_apart.specs.Whole.{came_since, WithholdsNothing}
-use Rattle.lpt_apart.specs.Worlds.{IsPromised}
+use Rattle.lpt_apart.specs.Ends.{Pair, Move, Do, Free, pair_after, Accept, Expire, Finish, Open, Plain, Restart, Retire, Send, Tick}
+use Rattle.lpt_apart.specs.TwoEnds.{Own, later, no_pair_later, CanMove, came_since, WithholdsNothing, IsPromised}
 use Rattle.lpt_spacecraft.specs.Flights.{Flight, Input, new_flight, step}
 use Rattle.lpt_spacecraft.specs.Serving.{Onboard, new_end}
 use Rattle.lpt_spacecraft_moves.specs.Moves.{after_moves, AreMovesFor, IsCraftOf, MayBring}

@@ -9,9 +9,8 @@ use Rattle.lpt_events.specs.declared.config.Config.{Config}
 use Rattle.lpt_events.specs.declared.side.Side.TheVariants.{Craft}
 use Rattle.lpt_node.specs.Accepting.{packet_accepted}
 use Rattle.lpt_model.specs.Tickets.{no_tickets}
-use Rattle.lpt_apart.specs.Ends.{PutOut, without}
-use Rattle.lpt_apart.specs.Moves.{Pair, Move, Do, Free, CanMove, pair_after}
-use Rattle.lpt_apart.specs.Steps.{Accept, Apply, Claim, Commit, Expire, Finish, Retire, Send, Tick}
+use Rattle.lpt_apart.specs.Ends.{PutOut, without, Pair, Move, Do, Free, pair_after, Accept, Apply, Claim, Commit, Expire, Finish, Retire, Send, Tick}
+use Rattle.lpt_apart.specs.TwoEnds.{CanMove}
 use Rattle.lpt_spacecraft.specs.Flights.{Flight, Input, Astray, Came, Ticked, Cleared, step}
 use Rattle.lpt_spacecraft.specs.Serving.{Onboard}
 use Rattle.lpt_spacecraft.specs.declared.told.Told.{Told}
