@@ -7,9 +7,7 @@ use crate::extract_notices::Telling;
 use lpt_carried::{Reading, Skips, Wanted as Parts};
 use lpt_command_line::ExtractWords;
 use lpt_events::Config;
-use lpt_extract::{
-    Clashes, ExtractEnd, Extracted, ImagePlace, Others, Tally, Wanted, extract_stream,
-};
+use lpt_extract::{Clashes, ExtractEnd, Extracted, ImagePlace, Others, Wanted, extract_stream};
 use lpt_io::{
     Failure, Fault, Machine, Status, Voice, carried_ended, opened_packets, output, own_or_read,
     reading_of, tell_no_packets, tell_place, tell_text,
