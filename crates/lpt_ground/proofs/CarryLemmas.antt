@@ -15,7 +15,7 @@ use Rattle.lpt_ground.specs.declared.pass.Step.{Step}
 use Rattle.lpt_ground.specs.declared.pass.Step.TheVariants.{Put, Listen, Stop}
 use Rattle.lpt_ground.specs.declared.telling.Said.{Said}
 use Rattle.lpt_ground.specs.declared.telling.Said.TheVariants as said
-use Rattle.lpt_ground.specs.Carrying.{Answer, Nothing, Came, Quiet, Over, AllTold, Hears, Stepped, WasTold, Went, state_answered, come_to, step_moved, packets_of, octets_written, written_at}
+use Rattle.lpt_ground.specs.Carrying.{Answer, Nothing, Came, Quiet, Over, AllCome, AllTold, Hears, Stepped, WasTold, Went, state_answered, come_to, step_moved, packets_of, octets_written, written_at}
 use Rattle.lpt_ground.specs.Passes.{PassState, has_come, octets_heard, is_done, next_step, put_from, step_from}
 use Rattle.lpt_ground.specs.Telling.{fate_by, is_waiting, report_of, said_of}
 use Rattle.lpt_ground.proofs.ToldLemmas.{heard-fares}
@@ -52,22 +52,46 @@ hears-none None has same = tt
 hears-none (Some old) has same =
     subst (λ (o : Option (List Answer)). Hears (Some old) o []) (sym same) (sym (append-nil old))
 
+pub come-more : (P : List ℕ → Type 0) (xs ys : List Answer)
+    → AllCome P xs
+    → AllCome P ys
+    → AllCome P (xs ++ ys)
+come-more P [] ys h k = k
+come-more P (x ∷ xs) ys h k = (h.0, come-more P xs ys h.1 k)
+
+-- what holds of each answer's packet
+pub each-comes : (P : List ℕ → Type 0) (answers : List Answer) (k : ℕ) (o : List ℕ)
+    → AllCome P answers
+    → slice_get (packets_of answers) k ≡ Some o
+    → P o
+each-comes P [] k o h is = absurd cc
+each-comes P (Nothing ∷ rest) k o h is = each-comes P rest k o h.1 is
+each-comes P (Came p ∷ rest) zero o h is = subst P (let same : p ≡ o = cc in same) h.0
+each-comes P (Came p ∷ rest) (suc k) o h is = each-comes P rest k o h.1 is
+each-comes P (Quiet ∷ rest) k o h is = each-comes P rest k o h.1 is
+each-comes P (Over ∷ rest) k o h is = each-comes P rest k o h.1 is
+
 -- a pass that begins
-pub went-none : (terms : Terms) (s : PassState) (had has : Option (List Answer))
-    (old : Option (List ℕ))
+pub went-none : (P : List ℕ → Type 0) (terms : Terms) (s : PassState)
+    (had has : Option (List Answer)) (old : Option (List ℕ))
     → has ≡ had
-    → Went terms s s had has old old
-went-none terms s had has old same =
-    record { answers = []; told = hears-none had has same; came = refl; written = Appends-nil old }
+    → Went P terms s s had has old old
+went-none P terms s had has old same = record {
+  answers = [];
+  told = hears-none had has same;
+  comes = tt;
+  came = refl;
+  written = Appends-nil old;
+}
 
 -- one that goes on by one answer
-pub went-next : (terms now : Terms) (s t u : PassState) (had has more : Option (List Answer))
-    (old new newer : Option (List ℕ))
+pub went-next : (P : List ℕ → Type 0) (terms now : Terms) (s t u : PassState)
+    (had has more : Option (List Answer)) (old new newer : Option (List ℕ))
     → now ≡ terms
-    → Went terms s t had has old new
-    → Stepped now t u has more new newer
-    → Went terms s u had more old newer
-went-next terms now s t u had has more old new newer same w x =
+    → Went P terms s t had has old new
+    → Stepped P now t u has more new newer
+    → Went P terms s u had more old newer
+went-next P terms now s t u had has more old new newer same w x =
     let a = x.answer in
     let step : come_to terms s (w.answers ++ a ∷ []) ≡ state_answered now t a =
     come_to-append terms s w.answers (a ∷ [])
@@ -82,6 +106,7 @@ went-next terms now s t u had has more old new newer same w x =
     record {
       answers = w.answers ++ a ∷ [];
       told = hears-more had has more w.answers (a ∷ []) w.told x.told;
+      comes = come-more P w.answers (a ∷ []) w.comes (x.comes, tt);
       came = x.came ∙ sym step;
       written =
           subst (Appends old newer) (sym text)

@@ -17,7 +17,7 @@ use Rattle.lpt_ground.specs.Carrying as pass
 use Rattle.lpt_ground.specs.Carrying.{Answer, Nothing, Came, Quiet, Over, AllTold, packets_of}
 use Rattle.lpt_ground.specs.Passes as passes
 use Rattle.lpt_ground.specs.Passes.{PassState, next_step}
-use Rattle.lpt_ground.proofs.CarryLemmas.{done-told, hears-more, hears-none}
+use Rattle.lpt_ground.proofs.CarryLemmas.{come-more, done-told, hears-more, hears-none}
 use Rattle.lpt_ground.specs.declared.large.Large.{Large}
 use Rattle.lpt_ground.specs.CarryingLarge.{Stepped, Went, after_answer, come_to, after_step, all_written, written_at}
 use Rattle.lpt_ground.specs.Parts.{PacketsAreTheNodes, behind, id_of, parts_of, patience}
@@ -41,22 +41,27 @@ paced-append l terms w (x ∷ xs) ys =
     (all_written l terms (come_to l terms (after_answer l terms w x) xs) ys))
 
 -- one that begins
-pub went-none : (l : Large) (terms : Terms) (w : Way) (had has : Option (List Answer))
-    (old : Option (List ℕ))
+pub went-none : (P : List ℕ → Type 0) (l : Large) (terms : Terms) (w : Way)
+    (had has : Option (List Answer)) (old : Option (List ℕ))
     → has ≡ had
-    → Went l terms w w had has old old
-went-none l terms w had has old same =
-    record { answers = []; told = hears-none had has same; came = refl; written = Appends-nil old }
+    → Went P l terms w w had has old old
+went-none P l terms w had has old same = record {
+  answers = [];
+  told = hears-none had has same;
+  comes = tt;
+  came = refl;
+  written = Appends-nil old;
+}
 
 -- one that goes on by one answer
-pub went-next : (l m : Large) (terms now : Terms) (w v u : Way)
+pub went-next : (P : List ℕ → Type 0) (l m : Large) (terms now : Terms) (w v u : Way)
     (had has more : Option (List Answer)) (old new newer : Option (List ℕ))
     → m ≡ l
     → now ≡ terms
-    → Went l terms w v had has old new
-    → Stepped m now v u has more new newer
-    → Went l terms w u had more old newer
-went-next l m terms now w v u had has more old new newer one same was x =
+    → Went P l terms w v had has old new
+    → Stepped P m now v u has more new newer
+    → Went P l terms w u had more old newer
+went-next P l m terms now w v u had has more old new newer one same was x =
     let a = x.answer in
     let step : come_to l terms w (was.answers ++ a ∷ []) ≡ after_answer m now v a =
     come_to-append l terms w was.answers (a ∷ [])
@@ -72,6 +77,7 @@ went-next l m terms now w v u had has more old new newer one same was x =
     record {
       answers = was.answers ++ a ∷ [];
       told = hears-more had has more was.answers (a ∷ []) was.told x.told;
+      comes = come-more P was.answers (a ∷ []) was.comes (x.comes, tt);
       came = x.came ∙ sym step;
       written =
           subst (Appends old newer) (sym text)

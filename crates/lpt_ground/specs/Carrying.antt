@@ -1,5 +1,5 @@
 -- What a pass puts by what it hears, and what has settled its requests.
-use Rattle.std.specs.Prelude.{◌≡◌, ℕ, List, [], ◌∷◌, ◌++◌, slice_get, Option, Some, None, ⊤}
+use Rattle.std.specs.Prelude.{◌≡◌, ℕ, Bool, true, List, [], ◌∷◌, ◌++◌, slice_get, Option, Some, None, ⊤}
 use Rattle.std.specs.Io.KnownBytes.{Appends}
 use Rattle.lpt_pus.specs.Telemetry.{Telemetry}
 use Rattle.lpt_ground.specs.declared.asked.Asked.{Asked}
@@ -49,6 +49,26 @@ Hears None has answers = ⊤
 Hears (Some old) None answers = ⊥
 Hears (Some old) (Some new) answers = new ≡ old ++ answers
 
+-- an answer that is a packet is one of which this holds
+abbrev pub Comes : (List ℕ → Type 0) → Answer → Type 0
+Comes P Nothing = ⊤
+Comes P (Came o) = P o
+Comes P Quiet = ⊤
+Comes P Over = ⊤
+
+-- each of them is
+abbrev pub AllCome : (List ℕ → Type 0) → List Answer → Type 0
+AllCome P [] = ⊤
+AllCome P (a ∷ rest) = Comes P a × AllCome P rest
+
+-- unless nothing came for a wait, behind which a round begins, an ear that was told of the requests
+-- stays so
+abbrev pub StaysKept : Answer → (kept : Bool) → Type 0
+StaysKept Nothing kept = kept ≡ true
+StaysKept (Came o) kept = kept ≡ true
+StaysKept Quiet kept = ⊤
+StaysKept Over kept = kept ≡ true
+
 -- ---- what a pass puts
 
 -- once a pass that was to put a request, or to listen, got nothing
@@ -93,19 +113,22 @@ octets_written terms s [] = []
 octets_written terms s (a ∷ rest) =
     written_at s a ++ octets_written terms (state_answered terms s a) rest
 
--- one answer was given, the pass came to that by it, and what it wrote was written
-pub record Stepped (terms : Terms) (s t : PassState) (had has : Option (List Answer))
-    (old new : Option (List ℕ)) : Type 0 where
+-- one answer was given, of such a packet if it is one, the pass came to that by it, and what it
+-- wrote was written
+pub record Stepped (P : List ℕ → Type 0) (terms : Terms) (s t : PassState)
+    (had has : Option (List Answer)) (old new : Option (List ℕ)) : Type 0 where
   pub answer : Answer
   pub told : Hears had has (answer ∷ [])
+  pub comes : Comes P answer
   pub came : t ≡ state_answered terms s answer
   pub written : Appends old new (written_at s answer)
 
 -- the same of answers, one after the other
-pub record Went (terms : Terms) (s t : PassState) (had has : Option (List Answer))
-    (old new : Option (List ℕ)) : Type 0 where
+pub record Went (P : List ℕ → Type 0) (terms : Terms) (s t : PassState)
+    (had has : Option (List Answer)) (old new : Option (List ℕ)) : Type 0 where
   pub answers : List Answer
   pub told : Hears had has answers
+  pub comes : AllCome P answers
   pub came : t ≡ come_to terms s answers
   pub written : Appends old new (octets_written terms s answers)
 
@@ -133,11 +156,12 @@ AllTold terms asked packets =
     → a.fate ≡ Waiting
     → WasTold terms a packets
 
--- of each that waited, one of the packets that were heard since says so
-pub record AreTold (terms : Terms) (asked : List Asked)
+-- of each that waited, one of the packets that were heard since says so, of all of which this holds
+pub record AreTold (P : List ℕ → Type 0) (terms : Terms) (asked : List Asked)
     (had has : Option (List Answer)) : Type 0 where
   pub answers : List Answer
   pub told : Hears had has answers
+  pub comes : AllCome P answers
   pub all : AllTold terms asked (packets_of answers)
 
 -- ---- the law

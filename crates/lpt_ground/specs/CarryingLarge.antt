@@ -5,7 +5,7 @@ use Rattle.lpt_ground.specs.declared.asked.Terms.{Terms}
 use Rattle.lpt_ground.specs.declared.pass.End.TheVariants as ends
 use Rattle.lpt_ground.specs.declared.pass.Step.{Step}
 use Rattle.lpt_ground.specs.declared.pass.Step.TheVariants.{Put, Listen, Stop}
-use Rattle.lpt_ground.specs.Carrying.{Answer, Nothing, Came, Quiet, Over, AllTold, Hears, packets_of}
+use Rattle.lpt_ground.specs.Carrying.{Answer, Nothing, Came, Quiet, Over, AllCome, AllTold, Comes, Hears, packets_of}
 use Rattle.lpt_ground.specs.declared.large.Large.{Large}
 use Rattle.lpt_ground.specs.Parts.{part_packet}
 use Rattle.lpt_ground.specs.Uplinks.{Way, at_end, with_packet, next_way, with_part_put, with_round}
@@ -47,19 +47,22 @@ all_written l terms w [] = []
 all_written l terms w (a ∷ rest) =
     written_at l w a ++ all_written l terms (after_answer l terms w a) rest
 
--- one answer was given, it came to that by it, and what goes up by it was written
-pub record Stepped (l : Large) (terms : Terms) (w v : Way) (had has : Option (List Answer))
-    (old new : Option (List ℕ)) : Type 0 where
+-- one answer was given, of such a packet if it is one, it came to that by it, and what goes up by
+-- it was written
+pub record Stepped (P : List ℕ → Type 0) (l : Large) (terms : Terms) (w v : Way)
+    (had has : Option (List Answer)) (old new : Option (List ℕ)) : Type 0 where
   pub answer : Answer
   pub told : Hears had has (answer ∷ [])
+  pub comes : Comes P answer
   pub came : v ≡ after_answer l terms w answer
   pub written : Appends old new (written_at l w answer)
 
 -- the same of answers, one after the other
-pub record Went (l : Large) (terms : Terms) (w v : Way) (had has : Option (List Answer))
-    (old new : Option (List ℕ)) : Type 0 where
+pub record Went (P : List ℕ → Type 0) (l : Large) (terms : Terms) (w v : Way)
+    (had has : Option (List Answer)) (old new : Option (List ℕ)) : Type 0 where
   pub answers : List Answer
   pub told : Hears had has answers
+  pub comes : AllCome P answers
   pub came : v ≡ come_to l terms w answers
   pub written : Appends old new (all_written l terms w answers)
 

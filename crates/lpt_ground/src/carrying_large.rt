@@ -1,6 +1,6 @@
 //! A large message carried up, over what is heard and what is written.
 
-ghost use Rattle.std.specs.Prelude.{◌≡◌, ◌<◌, ◌∷◌, ℕ, [], List, Option, IfOk, OnOk};
+ghost use Rattle.std.specs.Prelude.{◌≡◌, ◌<◌, ◌∷◌, ℕ, [], true, List, Option, IfOk, OnOk};
 ghost use Rattle.lpt_ground.specs.Carrying.{AreTold};
 ghost use Rattle.lpt_ground.specs.Passes.{state_of};
 ghost use Rattle.lpt_ground.specs.CarryingLarge.{Stepped, Went};
@@ -28,10 +28,10 @@ pub fn carry_large<E: Ear, K: Sink>(
     ensures stop { IfOk result (λ e.
         next_way uplink.new.large (way_of uplink.new (state_of pass.new)) ≡ Step.Stop e) }
     ensures done { IfOk result (λ e. e ≡ End.Done
-        → AreTold pass.old.terms pass.old.asked.items (E.told ear.old) (E.told ear.new)) }
+        → AreTold E.comes pass.old.terms pass.old.asked.items (E.told ear.old) (E.told ear.new)) }
 
     // What it wrote, and what became of it, follows from what it heard.
-    ensures paced { OnOk result (Went uplink.old.large pass.old.terms
+    ensures paced { OnOk result (Went E.comes uplink.old.large pass.old.terms
         (way_of uplink.old (state_of pass.old)) (way_of uplink.new (state_of pass.new))
         (E.told ear.old) (E.told ear.new) (K.contents out.old) (K.contents out.new)) }
     ensures large { uplink.new.large ≡ uplink.old.large }
@@ -59,11 +59,13 @@ fn turn<E: Ear, K: Sink>(
     ear: &mut E,
     out: &mut K,
 ) -> Result<(), StreamFault>
+    requires round { E.is_kept ear.old ≡ true }
     requires next { next_way uplink.old.large (way_of uplink.old (state_of pass.old)) ≡ step }
     requires within { (k : ℕ) → step ≡ Step.Put k → k < parts_of uplink.old.large }
-    ensures ok { OnOk result (Stepped uplink.old.large pass.old.terms
+    ensures ok { OnOk result (Stepped E.comes uplink.old.large pass.old.terms
         (way_of uplink.old (state_of pass.old)) (way_of uplink.new (state_of pass.new))
         (E.told ear.old) (E.told ear.new) (K.contents out.old) (K.contents out.new)) }
+    ensures kept { OnOk result (E.is_kept ear.new ≡ true) }
     ensures large { uplink.new.large ≡ uplink.old.large }
     ensures terms { pass.new.terms ≡ pass.old.terms }
 {
@@ -82,11 +84,13 @@ fn put_part<E: Ear, K: Sink>(
     ear: &mut E,
     out: &mut K,
 ) -> Result<(), StreamFault>
+    requires round { E.is_kept ear.old ≡ true }
     requires next { next_way uplink.old.large (way_of uplink.old (state_of pass.old)) ≡ Step.Put k }
     requires within { k < parts_of uplink.old.large }
-    ensures ok { OnOk result (Stepped uplink.old.large pass.old.terms
+    ensures ok { OnOk result (Stepped E.comes uplink.old.large pass.old.terms
         (way_of uplink.old (state_of pass.old)) (way_of uplink.new (state_of pass.new))
         (E.told ear.old) (E.told ear.new) (K.contents out.old) (K.contents out.new)) }
+    ensures kept { OnOk result (E.is_kept ear.new ≡ true) }
     ensures large { uplink.new.large ≡ uplink.old.large }
     ensures terms { pass.new.terms ≡ pass.old.terms }
 {
@@ -111,14 +115,16 @@ fn listen<E: Ear, K: Sink>(
     ear: &mut E,
     out: &mut K,
 ) -> Result<(), StreamFault>
-    ensures ok { OnOk result (Stepped uplink.old.large pass.old.terms
+    requires { E.is_kept ear.old ≡ true }
+    ensures ok { OnOk result (Stepped E.comes uplink.old.large pass.old.terms
         (way_of uplink.old (state_of pass.old)) (way_of uplink.new (state_of pass.new))
         (E.told ear.old) (E.told ear.new) (K.contents out.old) (K.contents out.new)) }
+    ensures kept { OnOk result (E.is_kept ear.new ≡ true) }
     ensures large { uplink.new.large ≡ uplink.old.large }
     ensures terms { pass.new.terms ≡ pass.old.terms }
 {
     flush_out(out)?;
-    match ear.wait() {
+    match ear.wait(out) {
         Waited::Packet(octets) => uplink.hear(pass, octets),
         Waited::End => uplink.close(pass),
         Waited::Quiet => {

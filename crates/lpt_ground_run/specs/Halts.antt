@@ -87,3 +87,9 @@ pub record Hands (resumes : Bool) (from : ℕ) (more : Bool) (halt : Halt)
   pub gains : Gains old new (packets_in pieces)
   pub rises : Rises before after (passed_in resumes pieces)
   pub halts : HaltsAt resumes from more pieces halt
+
+-- the same by one that cuts as it did at first
+abbrev pub HasHanded : (from : ℕ) → (first now : Cutting) → (more : Bool) → Halt
+    → (old new : Option (List (List ℕ))) → (before after : ℕ) → List Piece → Type 0
+HasHanded from first now more halt old new before after pieces =
+    (now ≡ first) × Hands first.resumes from more halt old new before after pieces

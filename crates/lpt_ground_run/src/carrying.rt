@@ -4,7 +4,9 @@ ghost use Rattle.std.specs.Prelude.{◌≡◌, Ok, IfOk};
 ghost use Rattle.lpt_ground.specs.Passes.{state_of};
 ghost use Rattle.lpt_ground.specs.Uplinks.{way_of};
 ghost use Rattle.lpt_ground_run.specs.Carried.{CameTo, CameUp};
+ghost use Rattle.lpt_ground_run.specs.Handing.{IsPacketOf};
 
+use crate::downlink::Downlink;
 use crate::hearing::{Hearing, Notes};
 use lpt_ground::{End, Pass, Uplink, carry, carry_large};
 use lpt_text::{Sink, StreamFault};
@@ -18,14 +20,15 @@ use std::time::Clock;
 /// Errors: `Write` if a write failed, or if the notes couldn't be kept; `Read` if a read
 /// of what comes down failed; `Memory` if memory ran out for it. What became of the requests
 /// stays.
-pub fn carry_pass<R: Wait + Clock + Drop, N: Notes + Drop, K: Sink>(
+pub fn carry_pass<R: Wait + Clock + Drop, N: Notes + Drop, J: Downlink, K: Sink>(
     pass: &mut Pass,
-    hearing: &mut Hearing<R, N>,
+    hearing: &mut Hearing<R, N, J>,
     out: &mut K,
 ) -> Result<End, StreamFault>
-    // If it is done, each request that waited was told so by a packet that came.
-    ensures carried { IfOk result (CameTo pass.old.terms (state_of pass.old) (state_of pass.new)
-        (K.contents out.old) (K.contents out.new)) }
+    // Each packet that it heard is one of the octets that come down. If it is done, each request
+    // that waited was told so by one of them.
+    ensures carried { IfOk result (CameTo (IsPacketOf J.longest J.octets) pass.old.terms
+        (state_of pass.old) (state_of pass.new) (K.contents out.old) (K.contents out.new)) }
     ensures terms { pass.new.terms ≡ pass.old.terms }
 {
     let ended = carry(pass, hearing, out);
@@ -37,15 +40,16 @@ pub fn carry_pass<R: Wait + Clock + Drop, N: Notes + Drop, K: Sink>(
 ///
 /// Errors: as of `carry_pass`; `Memory` also if memory ran out for a packet. What became of the
 /// request stays.
-pub fn carry_uplink<R: Wait + Clock + Drop, N: Notes + Drop, K: Sink>(
+pub fn carry_uplink<R: Wait + Clock + Drop, N: Notes + Drop, J: Downlink, K: Sink>(
     alloc: Global,
     uplink: &mut Uplink,
     pass: &mut Pass,
-    hearing: &mut Hearing<R, N>,
+    hearing: &mut Hearing<R, N, J>,
     out: &mut K,
 ) -> Result<End, StreamFault>
-    // If it is done, the request was told so by a packet that came.
-    ensures carried { IfOk result (CameUp uplink.old.large pass.old.terms
+    // The same: if it is done, the request was told so by one of these packets.
+    ensures carried { IfOk result (CameUp (IsPacketOf J.longest J.octets)
+        uplink.old.large pass.old.terms
         (way_of uplink.old (state_of pass.old)) (way_of uplink.new (state_of pass.new))
         (K.contents out.old) (K.contents out.new)) }
     ensures large { uplink.new.large ≡ uplink.old.large }
@@ -56,9 +60,9 @@ pub fn carry_uplink<R: Wait + Clock + Drop, N: Notes + Drop, K: Sink>(
 }
 
 // How a pass ended that came to this end, once the notes were told of it.
-fn ended_by<R: Wait + Clock + Drop, N: Notes + Drop>(
+fn ended_by<R: Wait + Clock + Drop, N: Notes + Drop, J: Downlink>(
     pass: &Pass,
-    hearing: &mut Hearing<R, N>,
+    hearing: &mut Hearing<R, N, J>,
     ended: Result<End, StreamFault>,
 ) -> Result<End, StreamFault>
     ensures { IfOk result (λ e. ended ≡ Ok e) }

@@ -1,18 +1,21 @@
 //! A thread that reads what comes down, and the ear to which it hands the packets over.
 
-ghost use Rattle.std.specs.Prelude.{◌≡◌, [], None, true};
+ghost use Rattle.std.specs.Prelude.{◌≡◌, [], ℕ, List, Option, None, true, IfSome};
 ghost use Rattle.lpt_ground_run.specs.Counts.{AreCounted};
 ghost use Rattle.lpt_ground_run.specs.Halts.{Rises};
+ghost use Rattle.lpt_ground_run.specs.Handing.{IsNamed, IsPacketOf};
 
 use crate::Halt;
 use crate::counts::RunCounts;
-use crate::cutting::{Cutting, Outlet, hand_packets};
+use crate::cutting::Cutting;
+use crate::downlink::{Came, Cuts, Downlink, read_all};
 use crate::standing::Standing;
 use crossbeam_channel::{Receiver, RecvTimeoutError, Sender, unbounded};
 use lpt_ground::{Asked, Ear, Terms, Waited};
 use lpt_packet::Octets;
-use lpt_text::{Source, StreamFault};
+use lpt_text::{Sink, Source, StreamFault};
 use std::alloc::Global;
+use std::marker::Brand;
 use std::sync::Wait;
 use std::thread::{Builder, Threads};
 use std::time::{Clock, Duration, Instant};
@@ -36,110 +39,11 @@ pub trait Notes {
     fn keep(&mut self, counts: RunCounts, asked: &[Asked]) -> bool;
 }
 
-// How far the thread that reads has cut what it read.
-#[derive(Clone, Copy)]
-struct Cuts {
-    // How many octets were passed over, and up to which place all is cut.
-    strays: u64,
-    place: u64,
-    // Whether that is right behind a packet.
-    in_step: bool,
-}
-
-// Nothing is cut yet.
-const BEGUN: Cuts = Cuts {
-    strays: 0,
-    place: 0,
-    in_step: true,
-};
-
-// What the thread that reads hands over.
-#[derive(Drop)]
-enum Came {
-    // What it read.
-    Read(Vec<u8>),
-    // A packet, and how far all is cut behind it.
-    Packet(Octets, Cuts),
-    // How far it is behind a damaged packet, or the first octet of several that are passed over.
-    Passed(Cuts),
-    // Where the last of them ended, and how far all is cut.
-    Halt(Halt, Cuts),
-    // Why nothing more will come.
-    Fault(StreamFault),
-}
-
-// The end of the channel at which the thread hands over.
-#[derive(Drop)]
-struct Handing<R: Wait + Drop> {
-    rt: R,
-    to: Sender<Came>,
-    // Whether somebody takes what is handed over.
-    open: bool,
-    cuts: Cuts,
-}
-
-impl<R: Wait + Drop> Outlet for Handing<R> {
-    ghost handed = { λ _. None };
-
-    ghost strays = { λ handing. handing.cuts.strays };
-
-    ghost is_open = { λ handing. handing.«open» };
-
-    fn hand(&mut self, packet: Octets) -> bool {
-        self.cuts.place = self
-            .cuts
-            .place
-            .saturating_add(packet.as_slice().len() as u64);
-        self.cuts.in_step = true;
-        let came = Came::Packet(packet, self.cuts);
-        self.open = self.to.send(&self.rt, came).is_ok();
-        self.open
-    }
-
-    fn pass(&mut self) {
-        self.cuts.strays = self.cuts.strays.saturating_add(1);
-        self.cuts.place = self.cuts.place.saturating_add(1);
-        if self.cuts.in_step {
-            self.cuts.in_step = false;
-            let _ = self.to.send(&self.rt, Came::Passed(self.cuts));
-        }
-    }
-
-    fn skip(&mut self, octets: usize) {
-        self.cuts.place = self.cuts.place.saturating_add(octets as u64);
-        self.cuts.in_step = true;
-        let _ = self.to.send(&self.rt, Came::Passed(self.cuts));
-    }
-}
-
-// A source that hands over what it reads, too.
-#[derive(Drop)]
-struct Overheard<R: Wait + Drop, S: Drop> {
-    rt: R,
-    alloc: Global,
-    to: Sender<Came>,
-    source: S,
-}
-
-impl<R: Wait + Drop, S: Source + Drop> Source for Overheard<R, S> {
-    ghost remaining = { λ overheard. S.remaining overheard.source };
-
-    ghost failed = { λ overheard. S.failed overheard.source };
-
-    fn read(&mut self, buf: &mut [u8]) -> Option<usize> {
-        let given = self.source.read(buf)?;
-        if let Ok(octets) = Vec::from_slice(self.alloc, &buf[..given]) {
-            let _ = self.to.send(&self.rt, Came::Read(octets));
-        }
-        Some(given)
-    }
-}
-
 /// An ear at what another thread reads.
 #[derive(Drop)]
-pub struct Hearing<R: Wait + Clock + Drop, N: Notes + Drop> {
+pub struct Hearing<R: Wait + Clock + Drop, N: Notes + Drop, J: Downlink = Brand> {
     rt: R,
-    from: Receiver<Came>,
+    from: Receiver<Came<J>>,
     // How long no report comes until a wait is over.
     wait: Duration,
     // Whose reports these are.
@@ -157,7 +61,12 @@ pub struct Hearing<R: Wait + Clock + Drop, N: Notes + Drop> {
     counts: RunCounts,
 }
 
-impl<R: Threads + Wait + Clock + Copy + Drop + Send + 'static, N: Notes + Drop> Hearing<R, N> {
+impl<R, N, J> Hearing<R, N, J>
+where
+    R: Threads + Wait + Clock + Copy + Drop + Send + 'static,
+    N: Notes + Drop,
+    J: Downlink + Send + 'static,
+{
     /// Starts a thread that reads this source, and hears what it hands over. It reads up to octets
     /// with which no packet begins, or, if it resumes, to the source's end. A wait is over once no
     /// report under these terms has come for so many milliseconds, whatever else comes.
@@ -172,28 +81,19 @@ impl<R: Threads + Wait + Clock + Copy + Drop + Send + 'static, N: Notes + Drop> 
         wait: u32,
         terms: Terms,
         notes: N,
-    ) -> Result<Self, HearFault> {
+    ) -> Result<Self, HearFault>
+        requires { IsNamed J.octets J.longest (S.remaining source) cutting.longest }
+    {
         let Ok((to, from)) = unbounded(alloc) else {
             return Err(HearFault::Memory);
         };
         let Ok(other) = to.clone() else {
             return Err(HearFault::Memory);
         };
-        let overheard = Overheard {
-            rt: *rt,
-            alloc,
-            to: other,
-            source,
-        };
-        let handing = Handing {
-            rt: *rt,
-            to,
-            open: true,
-            cuts: BEGUN,
-        };
+        let reader = *rt;
         let read = move || -> ()
-            requires { handing.«open» ≡ true }
-        { read_all(alloc, overheard, cutting, handing) };
+            requires { IsNamed J.octets J.longest (S.remaining source) cutting.longest }
+        { read_all(reader, alloc, source, cutting, (to, other)) };
         match Builder::new().spawn(rt, read) {
             Ok(_) => Ok(Hearing {
                 rt: *rt,
@@ -213,24 +113,7 @@ impl<R: Threads + Wait + Clock + Copy + Drop + Send + 'static, N: Notes + Drop> 
     }
 }
 
-// Hands over what this source gives, and then why it gave no more.
-fn read_all<R: Wait + Drop, S: Source + Drop>(
-    alloc: Global,
-    source: S,
-    cutting: Cutting,
-    handing: Handing<R>,
-)
-    requires { handing.«open» ≡ true }
-{
-    let (mut source, mut handing) = (source, handing);
-    let last = match hand_packets(alloc, &mut source, &mut handing, cutting) {
-        Ok(halt) => Came::Halt(halt, handing.cuts),
-        Err(fault) => Came::Fault(fault),
-    };
-    let _ = handing.to.send(&handing.rt, last);
-}
-
-impl<R: Wait + Clock + Drop, N: Notes + Drop> Hearing<R, N> {
+impl<R: Wait + Clock + Drop, N: Notes + Drop, J: Downlink> Hearing<R, N, J> {
     /// Its notes.
     pub fn notes(&mut self) -> &mut N {
         &mut self.notes
@@ -276,12 +159,14 @@ impl<R: Wait + Clock + Drop, N: Notes + Drop> Hearing<R, N> {
     }
 
     // Takes what came: the packet, if it is one.
-    fn packet_of(&mut self, came: Came) -> Option<Octets> {
+    fn packet_of(&mut self, came: Came<J>) -> Option<Octets>
+        ensures { IfSome result (IsPacketOf J.longest J.octets) }
+    {
         match came {
             Came::Read(octets) => self.standing.read(octets.as_slice()),
-            Came::Packet(octets, cuts) => {
+            Came::Packet(packet, cuts) => {
                 self.take_cuts(cuts);
-                return Some(octets);
+                return Some(packet.into_octets());
             }
             Came::Passed(cuts) => self.take_cuts(cuts),
             Came::Halt(halt, cuts) => {
@@ -336,8 +221,12 @@ impl<R: Wait + Clock + Drop, N: Notes + Drop> Hearing<R, N> {
     }
 }
 
-impl<R: Wait + Clock + Drop, N: Notes + Drop> Ear for Hearing<R, N> {
+impl<R: Wait + Clock + Drop, N: Notes + Drop, J: Downlink> Ear for Hearing<R, N, J> {
     ghost told = { λ _. None };
+
+    ghost comes = { IsPacketOf J.longest J.octets };
+
+    ghost is_kept = { λ _. true };
 
     fn ready(&mut self) -> Option<Octets> {
         for _ in 0..u64::MAX {
@@ -353,7 +242,7 @@ impl<R: Wait + Clock + Drop, N: Notes + Drop> Ear for Hearing<R, N> {
         None
     }
 
-    fn wait(&mut self) -> Waited {
+    fn wait<K: Sink>(&mut self, out: &K) -> Waited {
         let Some(deadline) = end_of_wait(&self.rt, self.wait) else {
             return Waited::Quiet;
         };

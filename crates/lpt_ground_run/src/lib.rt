@@ -13,6 +13,7 @@
 mod carrying;
 mod counts;
 mod cutting;
+mod downlink;
 mod halt;
 mod heads;
 mod hearing;
@@ -27,6 +28,7 @@ mod writing;
 pub use carrying::{carry_pass, carry_uplink};
 pub use counts::RunCounts;
 pub use cutting::{Cutting, Outlet, hand_packets};
+pub use downlink::Downlink;
 pub use halt::Halt;
 pub use heads::Heads;
 pub use hearing::{HearFault, Hearing, Notes};

@@ -178,8 +178,8 @@ whole-pieces apid source first (t ∷ tasks) asked (suc n) k u a fits are plans 
     }
 
 pub done-areas : DoneLeavesTheImage → DoneLeavesTheAreas
-done-areas image c first xs tasks asked terms end old new place n k t a config can apid fits are
-    plans came put there at agree alone =
+done-areas image c first xs tasks asked terms longest down end old new place n k t a config can apid
+    fits are plans came put there at agree alone =
     let x : Image = image_of t.memory a in
     let task = all-at (IsTask c.apid terms.source first) tasks are n t there in
     let all = whole-pieces c.apid terms.source first tasks asked n k t a fits are plans there at

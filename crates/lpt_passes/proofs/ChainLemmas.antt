@@ -27,11 +27,11 @@ use Rattle.lpt_ground.specs.declared.pass.End.TheVariants.{Done}
 use Rattle.lpt_ground.specs.declared.pass.Step.TheVariants.{Stop}
 use Rattle.lpt_ground.specs.declared.telling.Said.{Said}
 use Rattle.lpt_ground.specs.declared.telling.Said.TheVariants as said
-use Rattle.lpt_ground.specs.Carrying.{Answer, WasTold, come_to, packets_of}
+use Rattle.lpt_ground.specs.Carrying.{AllCome, Answer, WasTold, come_to, packets_of}
 use Rattle.lpt_ground.specs.Passes.{PassState, next_step, octets_heard}
 use Rattle.lpt_ground.specs.Telling.{addressed_to, is_answer, is_success, report_of, requests_told, said_by, said_first, said_in, said_of, said_with}
-use Rattle.lpt_ground.proofs.CarryLemmas.{done-told}
-use Rattle.lpt_passes.specs.Chains.{AreLoads, IsLoad, OthersLeaveThePass, WasPutOut, WerePutOut, messages_of}
+use Rattle.lpt_ground.proofs.CarryLemmas.{done-told, each-comes}
+use Rattle.lpt_passes.specs.Chains.{AreLoads, IsLoad, IsPutOut, OthersLeaveThePass, WasPutOut, WerePutOut, messages_of}
 
 -- telemetry is a report of start or completion, on this request ID
 record IsCompletion (t : Telemetry) (id : ℕ) : Type 0 where
@@ -223,7 +223,16 @@ done-heard c first xs terms s answers apid loads put done k m there =
     heard-one c first xs terms at.0 (packets_of answers) m apid load at.2 put
     (done-told terms s answers done k at.0 at.1 load.waits)
 
--- ---- what is no report
+-- ---- what can come
+
+-- if each report that can come where ground hears was put out, those were that came
+pub what-comes : (c : Config) (first : Contents) (xs : List Move) (terms : Terms)
+    (P : List ℕ → Type 0) (answers : List Answer)
+    → AllCome P answers
+    → IsPutOut c first xs terms P
+    → WerePutOut c first xs terms (packets_of answers)
+what-comes c first xs terms P answers comes all k o t there is =
+    all o t (each-comes P answers k o comes there) is
 
 pub others-leave : OthersLeaveThePass
 unfolding octets_heard said_in

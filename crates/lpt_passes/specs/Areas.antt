@@ -18,6 +18,7 @@ use Rattle.lpt_ground.specs.Passes.{PassState, pass_begun}
 use Rattle.lpt_passes.specs.Chains.{WerePutOut, messages_of}
 use Rattle.lpt_ground_run.specs.declared.heads.Heads.{Heads}
 use Rattle.lpt_ground_run.specs.Carried.{CameTo}
+use Rattle.lpt_ground_run.specs.Handing.{IsPacketOf}
 use Rattle.lpt_ground_run.specs.Planning.{ArePlanned}
 use Rattle.lpt_passes.specs.AloneJobs.{AreAlone, image_of}
 
@@ -63,15 +64,15 @@ AllAgree tasks x =
 abbrev pub DoneLeavesTheAreas : Type 0
 DoneLeavesTheAreas =
     (c : Config) (first : Contents) (xs : List Move) (tasks : List Task) (asked : List Asked)
-    (terms : Terms) (end : PassState) (old new : Option (List ℕ)) (place n k : ℕ) (t : Task)
-    (a : Area)
+    (terms : Terms) (longest : ℕ) (down : Option (List ℕ)) (end : PassState)
+    (old new : Option (List ℕ)) (place n k : ℕ) (t : Task) (a : Area)
     → IsConfig c
     → CanMoveAll c first xs
     → terms.apid ≡ c.apid
     → terms.source < 65536
     → AllByRecursion (IsTask c.apid terms.source first) tasks
     → ArePlans tasks asked
-    → (came : CameTo terms (pass_begun terms asked) end old new Done)
+    → (came : CameTo (IsPacketOf longest down) terms (pass_begun terms asked) end old new Done)
     → WerePutOut c first xs terms (packets_of came.answers)
     → slice_get tasks n ≡ Some t
     → slice_get t.areas k ≡ Some a

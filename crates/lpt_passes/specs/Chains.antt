@@ -56,6 +56,11 @@ WerePutOut c first xs terms packets =
     → report_of terms o ≡ Some t
     → WasPutOut c first xs o
 
+-- so was each that can come where ground hears
+abbrev pub IsPutOut : Config → Contents → List Move → Terms → (P : List ℕ → Type 0) → Type 0
+IsPutOut c first xs terms P =
+    (o : List ℕ) (t : Telemetry) → P o → report_of terms o ≡ Some t → WasPutOut c first xs o
+
 -- what is no report under its terms leaves a pass as it is
 abbrev pub OthersLeaveThePass : Type 0
 OthersLeaveThePass =

@@ -14,7 +14,8 @@ returns-in_ok-write_out-in-None-clause-ok g c =
     let w = way_of c.args.uplink.now (state_of c.args.pass.now) in
     record {
       answer = Nothing;
-      told = c.in-None.ensures;
+      told = c.in-None.ensures.told;
+      comes = tt;
       came = c.part_sent.ensures.way (state_of c.args.pass.now)
           ∙ ap (λ (x : Step). after_step w x) (sym c.requires.next);
       written =

@@ -10,7 +10,7 @@ use Rattle.lpt_ground_run.specs.Halts.{halt_damaged, halt_of, passed_in, stray_o
 use Rattle.lpt_ground_run.specs.Handing.{in_front, Gains, packets_in}
 use Rattle.lpt_ground_run.proofs.HaltLemmas.{are-past, at-damaged, at-passed, at-stray, behind, is-open, none-passed, passed-same, rises-passed, rises-same}
 use Rattle.lpt_ground_run.proofs.HandingLemmas.{handed-more, handed-part, passed-over}
-use Rattle.lpt_ground_run.proofs.cutting.HanderTaker.take.Goals as goal
+use Rattle.lpt_ground_run.proofs.cutting.Hander.take.Goals as goal
 
 -- no memory
 pub returns-in_err-from_slice-in-Whole-clause-left :
@@ -20,16 +20,15 @@ returns-in_err-from_slice-in-Whole-clause-left g c = λ from first old pieces h.
     any-err _ c.from_residual.result (
       handed-part (g.O.Outlet.handed old) (g.O.Outlet.handed c.args.lent.now) pieces p h.1.gains,
       rises-same (g.O.Outlet.strays old) (g.O.Outlet.strays c.args.lent.now)
-          (passed_in first.cutting.resumes (pieces ++ p ∷ []))
-          (passed_in first.cutting.resumes pieces)
-          (passed-same first.cutting.resumes pieces p (ap stray_of c.in-Whole.is)) h.1.rises,
+          (passed_in first.resumes (pieces ++ p ∷ [])) (passed_in first.resumes pieces)
+          (passed-same first.resumes pieces p (ap stray_of c.in-Whole.is)) h.1.rises,
     )
 
 -- a piece that is none of a packet's, and none of an octet
 pub returns-in-Damaged-clause-taken : goal.returns-in-Damaged-clause-taken
 returns-in-Damaged-clause-taken g c = λ from first old pieces h at.
     let p : Piece = record { kind = c.args.kind; octets = c.args.octets.now } in
-    let r = first.cutting.resumes in
+    let r = first.resumes in
     let old_lent = c.args.lent.now in
     let new_lent = c.skip.new.self in
     let more = g.O.Outlet.is_open new_lent in
@@ -69,7 +68,7 @@ returns-in-Damaged-clause-taken g c = λ from first old pieces h at.
 pub returns-in-Stray-clause-taken : goal.returns-in-Stray-clause-taken
 returns-in-Stray-clause-taken g c = λ from first old pieces h at.
     let p : Piece = record { kind = c.args.kind; octets = c.args.octets.now } in
-    let r = first.cutting.resumes in
+    let r = first.resumes in
     let is : r ≡ true = ap (λ (k : Cutting). k.resumes) (sym h.0) ∙ c.if-self.true in
     let old_lent = c.args.lent.now in
     let new_lent = c.pass.new.self in
@@ -103,7 +102,7 @@ returns-in-Stray-clause-taken g c = λ from first old pieces h at.
 pub returns-in-Stray-2-clause-taken : goal.returns-in-Stray-2-clause-taken
 returns-in-Stray-2-clause-taken g c = λ from first old pieces h at.
     let p : Piece = record { kind = c.args.kind; octets = c.args.octets.now } in
-    let r = first.cutting.resumes in
+    let r = first.resumes in
     let is : r ≡ false = ap (λ (k : Cutting). k.resumes) (sym h.0) ∙ c.if-self.false in
     let more = g.O.Outlet.is_open c.args.lent.now in
     let halt = c.args.self.halt in (
@@ -130,7 +129,7 @@ pub returns-in_ok-from_slice-in-Whole-clause-taken :
     goal.returns-in_ok-from_slice-in-Whole-clause-taken
 returns-in_ok-from_slice-in-Whole-clause-taken g c = λ from first old pieces h at.
     let p : Piece = record { kind = c.args.kind; octets = c.args.octets.now } in
-    let r = first.cutting.resumes in
+    let r = first.resumes in
     let more = g.O.Outlet.is_open c.hand-more.new.self in
     let none : stray_of p.kind ≡ 0 = ap stray_of c.in-Whole.is in
     let halt = c.args.self.halt in (
@@ -160,3 +159,10 @@ returns-in_ok-from_slice-in-Whole-clause-taken g c = λ from first old pieces h 
             h.1.halts)));
       },
     )
+
+-- what is handed over is this piece
+pub hand-more-requires : goal.hand-more-requires
+hand-more-requires g c =
+    subst g.O.Outlet.may
+    (sym (c.from_vec-packet.ensures ∙ c.in_ok-from_slice-in-Whole.ensures.items))
+    (c.requires.may c.in-Whole.is)
