@@ -1,2 +1,4 @@
 mod CheckLemmas
 pub mod ReachLemmas
+pub mod StretchLemmas
+pub mod WrittenLemmas
