@@ -5,7 +5,7 @@ _lpt() {
     local command='' request='' offered='' i
     for ((i = 1; i < COMP_CWORD; i++)); do
         case $command:${COMP_WORDS[i]} in
-        :run | :threads | :decode | :list | :split | :join | :extract | :link | :spacecraft | :verify | :compare | :checksum | :ground | :pass | :request | :help)
+        :run | :threads | :decode | :list | :split | :join | :extract | :link | :spacecraft | :verify | :compare | :checksum | :patch | :ground | :pass | :request | :help)
             command=${COMP_WORDS[i]}
             ;;
         ground:load | ground:dump | ground:check | ground:patch | ground:help | \
@@ -30,6 +30,7 @@ _lpt() {
     spacecraft:*) options+=' --mode --memory --save --tick-every --tick --reuse --resync --longest --log --state' ;;
     compare:*) options+=' --layout --quiet' ;;
     checksum:*) options='--from --length --help --version' ;;
+    patch:*) options='--gap --align --part-size --help --version' ;;
     ground:load | ground:dump | ground:check | ground:patch)
         options+=' --passes --count --wait --tries --up --job --resync --longest --json --quiet'
         ;;
@@ -57,14 +58,14 @@ _lpt() {
         mapfile -t COMPREPLY < <(compgen -d -- "$word")
         return
         ;;
-    *:*:--from:* | *:*:--to:* | *:*:--at:* | *:*:--fill:* | *:*:--length:* | *:*:--parts:* | *:*:--id:* | *:*:--ack:* | *:*:--count:* | *:*:--area:* | *:*:--each:* | \
+    *:*:--from:* | *:*:--to:* | *:*:--at:* | *:*:--fill:* | *:*:--gap:* | *:*:--align:* | *:*:--length:* | *:*:--parts:* | *:*:--id:* | *:*:--ack:* | *:*:--count:* | *:*:--area:* | *:*:--each:* | \
         *:*:--wait:* | *:*:--tries:* | *:*:--name:* | *:*:--names:* | *:*:--lose:* | *:*:--repeat:* | *:*:--damage:* | *:*:--damage-headers:* | *:*:--delay:* | *:*:--seed:* | *:*:--memory:* | *:*:--tick-every:* | *:*:--reuse:* | \
         *:*:--apid:* | *:*:--source:* | *:*:--part-size:*)
         return
         ;;
     *:*:--mode:*) offered='any strict' ;;
-    :*) offered='run threads decode list split join extract link spacecraft verify compare checksum ground pass request help --help --version' ;;
-    help::help:*) offered='run threads decode list split join extract link spacecraft verify compare checksum ground pass request help' ;;
+    :*) offered='run threads decode list split join extract link spacecraft verify compare checksum patch ground pass request help --help --version' ;;
+    help::help:*) offered='run threads decode list split join extract link spacecraft verify compare checksum patch ground pass request help' ;;
     help::ground:* | help::pass:* | ground:help:help:* | pass:help:help:*) offered='load dump check patch' ;;
     help::request:* | request:help:help:*) offered='load dump check' ;;
     help:* | ground:help:* | pass:help:* | request:help:*) return ;;

@@ -34,11 +34,12 @@ complete -c lpt -n '__lpt_is' -a spacecraft -d 'Play the spacecraft: take packet
 complete -c lpt -n '__lpt_is' -a verify -d 'List requests with what verification reports say about them'
 complete -c lpt -n '__lpt_is' -a compare -d 'Compare a file with the checksums in check reports'
 complete -c lpt -n '__lpt_is' -a checksum -d 'Print the checksum that a check report has for a file'
+complete -c lpt -n '__lpt_is' -a patch -d 'Write lists for ground patch that turn one image into another, and back'
 complete -c lpt -n '__lpt_is' -a ground -d 'Send requests to a memory until reports settle them'
 complete -c lpt -n '__lpt_is' -a pass -d 'Carry requests to a spacecraft over links that lose, all in one process'
 complete -c lpt -n '__lpt_is' -a request -d 'Write telecommands that load, dump or check a memory'
 complete -c lpt -n '__lpt_is' -a help -d 'Print the help of a command'
-complete -c lpt -n '__lpt_is help' -a 'run threads decode list split join extract link spacecraft verify compare checksum ground pass request help'
+complete -c lpt -n '__lpt_is help' -a 'run threads decode list split join extract link spacecraft verify compare checksum patch ground pass request help'
 for family in ground pass request
     complete -c lpt -n "__lpt_is help $family; or __lpt_is $family help" -a 'load dump check'
 end
@@ -64,7 +65,7 @@ complete -c lpt -n '__lpt_is split; or __lpt_is join' -a 'up down'
 complete -c lpt -n '__lpt_at run; or __lpt_at threads; or __lpt_at list' -F
 complete -c lpt -n '__lpt_at split up; or __lpt_at split down' -F
 complete -c lpt -n '__lpt_at join up; or __lpt_at join down' -F
-complete -c lpt -n '__lpt_at extract; or __lpt_at link; or __lpt_at verify; or __lpt_at compare; or __lpt_at checksum' -F
+complete -c lpt -n '__lpt_at extract; or __lpt_at link; or __lpt_at verify; or __lpt_at compare; or __lpt_at checksum; or __lpt_at patch' -F
 complete -c lpt -n '__lpt_at request load; or __lpt_at ground load; or __lpt_at ground check' -F
 complete -c lpt -n '__lpt_at pass load; or __lpt_at pass check' -F
 complete -c lpt -n '__lpt_at ground patch; or __lpt_at pass patch' -F
@@ -110,6 +111,9 @@ complete -c lpt -n '__lpt_at extract' -l whole -d 'Write the image only if nothi
 complete -c lpt -n '__lpt_at extract' -l join -d 'Also take dump reports that came in parts'
 complete -c lpt -n '__lpt_at checksum' -l from -x -d 'The place of the first octet'
 complete -c lpt -n '__lpt_at checksum' -l length -x -d 'How many octets; all that follow if not given'
+complete -c lpt -n '__lpt_at patch' -l gap -x -d "Join areas with at most N octets between them that don't differ"
+complete -c lpt -n '__lpt_at patch' -l align -x -d 'Let areas begin and end at multiples of N, as far as the image reaches'
+complete -c lpt -n '__lpt_at patch' -l part-size -x -d 'The size of a part in octets, 4 to 1024'
 for command in list join extract link verify compare
     complete -c lpt -n "__lpt_at $command" -l quiet -d 'Report only why the status is not 0'
 end

@@ -13,7 +13,7 @@ use lpt_io::{
     Failure, Fault, Machine, Status, Terminals, Voice, config_of, explain_words, tell_end,
 };
 use lpt_message_commands::{extract, join, split, split_all};
-use lpt_packet_commands::{checksum, compare, decode, link, list, request, verify};
+use lpt_packet_commands::{checksum, compare, decode, link, list, patch, request, verify};
 use lpt_simulator_commands::{RunKind, run};
 use std::io::IsTerminal;
 use std::process::{self, ExitCode};
@@ -127,6 +127,7 @@ fn do_on_packets<R: Machine>(
         Command::Extract(words) => extract(rt, voice, config, words),
         Command::Request(words) => request(rt, config, words),
         Command::Compare(words) => compare(rt, voice, config, words),
+        Command::Patch(words) => patch(rt, config, words),
         // The others have none.
         _ => Ok(Status::Refused),
     }

@@ -7,6 +7,7 @@ use crate::grounds::{
     PASS_LOAD, PASS_PATCH, PASS_WORDS,
 };
 use crate::passes::{LINK, SPACECRAFT};
+use crate::patch_words::PATCH;
 use crate::row::{CommandRow, Configured, Family, Named, Word};
 use crate::setting_words::{PASS_SETTINGS, REQUEST_SETTINGS, SETTINGS};
 use crate::words::STANDARD;
@@ -71,7 +72,7 @@ fn add_meant<'a>(
     add_commands(alloc, asked, commands, &scripts, &[])?;
     let packets = [&DECODE, &LIST, &SPLIT, &JOIN, &EXTRACT];
     add_commands(alloc, asked, commands, &packets, &[])?;
-    let passes = [&SPACECRAFT, &LINK, &VERIFY, &COMPARE, &CHECKSUM];
+    let passes = [&SPACECRAFT, &LINK, &VERIFY, &COMPARE, &CHECKSUM, &PATCH];
     add_commands(alloc, asked, commands, &passes, &[])?;
     add_families(alloc, asked, commands)
 }

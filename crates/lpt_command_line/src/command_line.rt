@@ -9,6 +9,7 @@ use crate::file_words::{
 };
 use crate::ground_words::{GroundWords, PassWords, ground_words, pass_command};
 use crate::link_words::{LinkWords, link_command};
+use crate::patch_words::{PatchWords, patch_command};
 use crate::request_words::{RequestWords, request_command};
 use crate::setting_words::{SettingWords, setting_words};
 use crate::spacecraft_words::{SpacecraftWords, spacecraft_command};
@@ -76,6 +77,8 @@ pub enum Command<'a> {
     Compare(CompareWords<'a>),
     /// `checksum [FILE]`.
     Checksum(ChecksumWords<'a>),
+    /// `patch OLD NEW MEMORY ADDRESS DIR`.
+    Patch(PatchWords<'a>),
 }
 
 /// What `run` asks for.
@@ -191,6 +194,7 @@ fn command_of<'a>(
         "verify" => verify_command(alloc, words),
         "compare" => compare_command(alloc, words),
         "checksum" => checksum_command(words),
+        "patch" => patch_command(words),
         "spacecraft" => spacecraft_command(alloc, words),
         "ground" => Command::Ground(ground_words(alloc, below, words)),
         "pass" => pass_command(alloc, below, words),

@@ -30,7 +30,7 @@ const APID: Named = Named::One(
     "The APID of all packets, 0 to 2046",
 );
 
-const PART_SIZE: Named = Named::One(
+pub(crate) const PART_SIZE: Named = Named::One(
     "part-size",
     "N",
     ValueParser::Signed(4, 1024),

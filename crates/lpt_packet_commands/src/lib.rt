@@ -10,6 +10,7 @@ mod decoding;
 mod layouts;
 mod links;
 mod lists;
+mod patch_lists;
 mod requests;
 mod verifies;
 
@@ -19,9 +20,11 @@ pub use decoding::decode;
 pub use links::link;
 pub use lists::list;
 pub use lpt_command_line::{
-    ChecksumWords, CompareWords, DecodeWords, LinkWords, ListWords, RequestWords, VerifyWords,
+    ChecksumWords, CompareWords, DecodeWords, LinkWords, ListWords, PatchWords, RequestWords,
+    VerifyWords,
 };
 pub use lpt_events::Config;
 pub use lpt_io::{Failure, Machine, Status, Voice};
+pub use patch_lists::patch;
 pub use requests::request;
 pub use verifies::verify;
