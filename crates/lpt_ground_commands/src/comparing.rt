@@ -2,10 +2,9 @@
 
 use crate::errands::Errand;
 use crate::ground_told::Teller;
-use crate::places::{ErrandKind, Places};
 use lpt_command_line::GroundWords;
 use lpt_ground::dumped_octets;
-use lpt_ground_run::Asked;
+use lpt_ground_run::{Asked, ErrandKind, Places};
 use lpt_io::{Failure, LastingFiles, Status, first_failure};
 
 /// Writes the files of what was dumped, also if another couldn't be written.

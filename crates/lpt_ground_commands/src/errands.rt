@@ -3,14 +3,13 @@
 ghost use Rattle.lpt_events.specs.Configs.{IsConfig};
 
 use crate::pieces::Piece;
-use crate::places::{ErrandKind, Places};
 use crate::uplinks::{LONGEST_LOAD, uplink_in};
 use lpt_command_line::{AckFlags, GroundWords, Job, longest_on_link};
 use lpt_events::Config;
 use lpt_ground::{MOST, Pass, Terms};
 use lpt_ground_run::{
-    Area, Asked, Cutting, Heads, PlanFault, Read, Uplink, check_each, done_count, dump_each,
-    plan_loads, plan_reads, some_done,
+    Area, Cutting, ErrandKind, Heads, Places, PlanFault, Uplink, check_each, done_count, dump_each,
+    plan_places, some_done,
 };
 use std::alloc::Global;
 
@@ -117,8 +116,8 @@ pub fn errand_of(
     let verified = places_read(alloc, words, part, &places, &pieces, false)?;
     let looked_at = places_read(alloc, words, part, &places, &pieces, words.kept.is_some())?;
     let (areas, files) = contents_of(alloc, pieces)?;
-    let asked = all_asked(alloc, &heads, &places, &areas)?;
-    let own = heads_at(&heads, sources.own, 0);
+    let asked = plan_places(alloc, &heads, &places, &areas)?;
+    let own = heads_under(&heads, sources.own);
     let second = reading(alloc, &own, words, verified, asked.len())?;
     let again = reading(alloc, &own, words, looked_at, asked.len())?;
     let anew = asked_anew(alloc, &own, words, sources, &places)?;
@@ -142,6 +141,16 @@ pub fn errand_of(
     })
 }
 
+// The same heads under this source.
+fn heads_under(heads: &Heads, source: u16) -> Heads {
+    Heads {
+        apid: heads.apid,
+        source,
+        count: heads.count,
+        flags: heads.flags,
+    }
+}
+
 // The pass of these octets under these heads, if a job of dumps or of checks goes on.
 fn asked_anew(
     alloc: Global,
@@ -153,7 +162,7 @@ fn asked_anew(
     if !sources.goes_on || matches!(words.job, Job::Load { .. }) {
         return Ok(None);
     }
-    let asked = all_asked(alloc, heads, places, &[])?;
+    let asked = plan_places(alloc, heads, places, &[])?;
     Ok(Some(Pass::new(terms_of(heads, words.tries), asked)))
 }
 
@@ -167,54 +176,6 @@ pub fn overlap_of(places: &[Places]) -> Option<(Places, Places)> {
         }
     }
     None
-}
-
-// The requests that are of these octets, one behind the other, of areas with these contents.
-fn all_asked(
-    alloc: Global,
-    heads: &Heads,
-    places: &[Places],
-    areas: &[Area],
-) -> Result<Vec<Asked>, PlanFault> {
-    let mut total: u64 = 0;
-    for one in places {
-        total = total.saturating_add(one.many());
-    }
-    // Before any is made: so many may take more memory than there is.
-    if total > MOST as u64 {
-        return Err(PlanFault::TooMany(total));
-    }
-    let mut asked = Vec::new(alloc);
-    for one in places {
-        let heads = heads_at(heads, heads.source, asked.len());
-        let (memory, range, each) = (one.memory, one.range(), one.each.max(1));
-        let planned = match one.kind {
-            ErrandKind::Load => {
-                let areas = areas.get(one.area..).unwrap_or(&[]);
-                let (areas, _) = areas.split_at(areas.len().min(1));
-                plan_loads(alloc, &heads, memory, areas, each)?
-            }
-            ErrandKind::Dump => plan_reads(alloc, &heads, Read::Dump, memory, &[range], each)?,
-            ErrandKind::Check => plan_reads(alloc, &heads, Read::Check, memory, &[range], each)?,
-        };
-        for request in planned {
-            if asked.push(request).is_err() {
-                return Err(PlanFault::Memory);
-            }
-        }
-    }
-    Ok(asked)
-}
-
-// The heads of requests behind so many of these, under this source, with the same flags.
-fn heads_at(heads: &Heads, source: u16, many: usize) -> Heads {
-    let Heads { count, .. } = heads.behind(many as u64);
-    Heads {
-        apid: heads.apid,
-        source,
-        count,
-        flags: heads.flags,
-    }
 }
 
 // The acknowledgement flags of what does this: a dump and a check are answered by themselves.
@@ -234,33 +195,43 @@ fn all_places(
     pieces: &[Piece],
 ) -> Result<Vec<Places>, PlanFault> {
     let mut places = Vec::new(alloc);
-    for (area, piece) in pieces.iter().enumerate() {
-        let Ok(of_content) = u32::try_from(piece.octets.as_slice().len()) else {
-            return Err(PlanFault::PastEnd);
-        };
-        let loaded = match words.large {
-            Some(_) if of_content > u32::from(LONGEST_LOAD) => return Err(PlanFault::TooLong),
-            Some(_) => LONGEST_LOAD,
-            None => part,
-        };
-        let (kind, each, len) = match words.job {
-            Job::Load { .. } => (ErrandKind::Load, loaded, of_content),
-            Job::Dump => (ErrandKind::Dump, dump_each(part)?, piece.len),
-            Job::Check => (ErrandKind::Check, check_each(part)?, of_content),
-        };
-        let one = Places {
-            area,
-            kind,
-            memory: piece.memory,
-            address: piece.address,
-            len,
-            each,
-        };
+    for piece in pieces {
+        let one = places_of(words, places.len(), piece, part)?;
         if places.push(one).is_err() {
             return Err(PlanFault::Memory);
         }
     }
     Ok(places)
+}
+
+// The octets of the area of this number, for parts of so many octets.
+fn places_of(
+    words: &GroundWords<'_>,
+    area: usize,
+    piece: &Piece,
+    part: u16,
+) -> Result<Places, PlanFault> {
+    let Ok(of_content) = u32::try_from(piece.octets.as_slice().len()) else {
+        return Err(PlanFault::PastEnd);
+    };
+    let loaded = match words.large {
+        Some(_) if of_content > u32::from(LONGEST_LOAD) => return Err(PlanFault::TooLong),
+        Some(_) => LONGEST_LOAD,
+        None => part,
+    };
+    let (kind, each, len) = match words.job {
+        Job::Load { .. } => (ErrandKind::Load, loaded, of_content),
+        Job::Dump => (ErrandKind::Dump, dump_each(part)?, piece.len),
+        Job::Check => (ErrandKind::Check, check_each(part)?, of_content),
+    };
+    Ok(Places {
+        area,
+        kind,
+        memory: piece.memory,
+        address: piece.address,
+        len,
+        each,
+    })
 }
 
 // The octets that are read once they are loaded: those that are verified are dumped; of a job that
@@ -325,7 +296,7 @@ fn reading(
         return Ok(None);
     }
     let heads = heads.behind(loads as u64);
-    let asked = all_asked(alloc, &heads, &places, &[])?;
+    let asked = plan_places(alloc, &heads, &places, &[])?;
     let many = loads.saturating_add(asked.len());
     if many > MOST {
         return Err(PlanFault::TooMany(many as u64));

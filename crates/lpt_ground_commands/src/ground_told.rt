@@ -1,10 +1,9 @@
 //! What standard error is told of a pass: of its rounds, and at its end.
 
 use crate::ground_lines::{Became, Stretch, became_line, done_line};
-use crate::places::{ErrandKind, Places};
 use lpt_command_line::{GroundWords, Job, SourceWords};
 use lpt_ground::{Pass, checks_agree};
-use lpt_ground_run::{Asked, Halt, Outcome, RunCounts, runs_of};
+use lpt_ground_run::{Asked, ErrandKind, Halt, Outcome, Places, RunCounts, runs_of};
 use lpt_io::{Voice, tell_place, tell_text};
 use std::alloc::{AllocError, Global};
 

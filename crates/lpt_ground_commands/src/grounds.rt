@@ -15,12 +15,11 @@ use crate::ground_wires::{
 use crate::job_files::{JobFront, job_begun, kept_job, sources_of};
 use crate::outputs::{check_places, files_used};
 use crate::pieces::{Piece, pieces_of};
-use crate::places::Places;
 use crate::uplinks::LONGEST_LOAD;
 use lpt_command_line::{GroundWords, Job, SettingWords};
 use lpt_events::Config;
 use lpt_ground::{End, Pass};
-use lpt_ground_run::{Fate, Halt, PlanFault, carry_pass, carry_uplink};
+use lpt_ground_run::{Fate, Halt, Places, PlanFault, carry_pass, carry_uplink};
 use lpt_io::{
     EndMachine, Failure, Fault, PlainMachine, Status, Voice, Watched, config_of, lock_file,
     status_of, tell_text, used_twice, word_refused,

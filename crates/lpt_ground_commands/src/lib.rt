@@ -18,7 +18,6 @@ mod job_files;
 mod outputs;
 mod patches;
 mod pieces;
-mod places;
 mod uplinks;
 
 pub use errands::Errand;
@@ -26,7 +25,7 @@ pub use ground_told::Teller;
 pub use ground_wires::limit_of;
 pub use grounds::{Ready, carry_over, ground, job_lock, ready_of};
 pub use lpt_command_line::{GroundWords, SettingWords};
+pub use lpt_ground_run::{ErrandKind, Places};
 pub use lpt_io::{EndMachine, Failure, PlainMachine, Status, UsedFile, Voice};
 pub use outputs::{check_places, files_used};
 pub use pieces::{Piece, pieces_of};
-pub use places::{ErrandKind, Places};

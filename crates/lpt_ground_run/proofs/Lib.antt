@@ -1,6 +1,8 @@
 mod CarriedLemmas
+mod ErrandLemmas
 mod HaltLemmas
 mod HandingLemmas
 mod KeepingLemmas
+pub mod NamedLemmas
 mod PlanLemmas
 mod RunLemmas

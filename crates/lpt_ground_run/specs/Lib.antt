@@ -1,5 +1,6 @@
 pub mod Carried
 pub mod Counts
+pub mod Errands
 pub mod Halts
 pub mod Handing
 pub mod Keeping

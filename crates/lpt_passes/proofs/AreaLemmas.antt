@@ -17,7 +17,8 @@ use Rattle.lpt_ground.specs.Passes.{pass_begun, next_step}
 use Rattle.lpt_ground.specs.Plans.{requests_planned}
 use Rattle.lpt_passes.specs.Chains.{DoneLeavesTheImage}
 use Rattle.lpt_passes.specs.AloneJobs.{image_of}
-use Rattle.lpt_passes.specs.Areas.{AllAgree, ArePlans, DoneLeavesTheAreas, IsPlan, IsTask, Task}
+use Rattle.lpt_ground_run.specs.Errands.{ArePlans, IsPlan, Task}
+use Rattle.lpt_passes.specs.Areas.{AllAgree, DoneLeavesTheAreas, IsTask}
 use Rattle.lpt_passes.proofs.AtLemmas.{all-at}
 use Rattle.lpt_passes.proofs.LeavingLemmas.{AllSuit, Reaches, done-leaves}
 use Rattle.lpt_passes.proofs.PacketLemmas.{AllLoad, load-append, planned-load}

@@ -1,10 +1,10 @@
 -- What a pass of planned loads leaves in the spacecraft's memories.
-use Rattle.std.specs.Prelude.{◌≡◌, ℕ, ◌<◌, ◌≤◌, List, [], ◌∷◌, ◌++◌, length, map, slice_get, Option, Some, None}
+use Rattle.std.specs.Prelude.{◌≡◌, ℕ, ◌<◌, ◌≤◌, List, length, slice_get, Option, Some, None}
 use Rattle.std.specs.List.{AllByRecursion}
 use Rattle.lpt_memory.specs.declared.request.Area.{Area}
 use Rattle.lpt_memory.specs.Memories.{Contents, content_of}
 use Rattle.lpt_memory.specs.Ranges.{AreasFit}
-use Rattle.lpt_requests.specs.Cuts.{AreasCut, areas_fault, as_load}
+use Rattle.lpt_requests.specs.Cuts.{areas_fault}
 use Rattle.lpt_events.specs.Configs.{IsConfig}
 use Rattle.lpt_events.specs.declared.config.Config.{Config}
 use Rattle.lpt_apart.specs.Ends.{Move}
@@ -16,31 +16,10 @@ use Rattle.lpt_ground.specs.declared.pass.End.TheVariants.{Done}
 use Rattle.lpt_ground.specs.Carrying.{packets_of}
 use Rattle.lpt_ground.specs.Passes.{PassState, pass_begun}
 use Rattle.lpt_passes.specs.Chains.{WerePutOut, messages_of}
-use Rattle.lpt_ground_run.specs.declared.heads.Heads.{Heads}
 use Rattle.lpt_ground_run.specs.Carried.{CameTo}
 use Rattle.lpt_ground_run.specs.Handing.{IsPacketOf}
-use Rattle.lpt_ground_run.specs.Planning.{ArePlanned}
+use Rattle.lpt_ground_run.specs.Errands.{ArePlans, Task}
 use Rattle.lpt_passes.specs.AloneJobs.{AreAlone, image_of}
-
--- areas that are loaded into a memory, so many octets by one load, and the heads of the first load
-pub record Task : Type 0 where
-  pub heads : Heads
-  pub memory : ℕ
-  pub each : ℕ
-  pub areas : List Area
-
--- these are the requests that `plan_loads` makes of it
-pub record IsPlan (t : Task) (asked : List Asked) : Type 0 where
-  pub pieces : List Area
-  pub cut : AreasCut t.each t.areas pieces
-  pub planned : ArePlanned t.heads (map (as_load t.memory) pieces) asked
-
--- the same of tasks, one behind the other
-abbrev pub ArePlans : List Task → List Asked → Type 0
-ArePlans [] asked = asked ≡ []
-ArePlans (t ∷ tasks) asked =
-    (front : List Asked) × (rest : List Asked) × (asked ≡ front ++ rest)
-    × IsPlan t front × ArePlans tasks rest
 
 -- A task of this APID and source, with numbers in their ranges, whose areas lie within one of the
 -- first memories.
