@@ -111,6 +111,11 @@ def settled(length):
     return some(report_of, length)
 
 
+def no_requests(length):
+    """Such reports in place of requests"""
+    return settled(length)
+
+
 def _gaps(length):
     """Areas of dumps with an octet, and one missing before it."""
     one = area(0, 1, b"\0" + checksum(b"\0"))
