@@ -1,7 +1,7 @@
 //! The words of the commands that match files with reports.
 
 use crate::command_line::Command;
-use crate::word_fault::{TWICE, WordFault};
+use crate::word_fault::TWICE;
 use crate::words::{STANDARD, Words};
 use std::alloc::Global;
 

@@ -3,7 +3,7 @@
 use crate::command_line::Command;
 use crate::link_words::{OddsWords, odds_words};
 use crate::spacecraft_words::{SpacecraftWords, craft_words};
-use crate::word_fault::{MISSING, WordFault, no_path};
+use crate::word_fault::{MISSING, no_path};
 use crate::words::{STANDARD, Words};
 use std::alloc::Global;
 

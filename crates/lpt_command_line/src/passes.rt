@@ -1,6 +1,6 @@
 //! The commands that play a pass: the link, and the spacecraft's end.
 
-use crate::commands::{LAYOUT, PACKETS, QUIET, TEXT, U32, U64};
+use crate::commands::{LAYOUT, PACKETS, QUIET, U32, U64};
 use crate::row::{CommandRow, Configured, Named};
 use clap::builder::ValueParser;
 

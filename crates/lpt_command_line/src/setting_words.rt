@@ -1,6 +1,5 @@
 //! The words that say what a configuration says, in its place or beside it.
 
-use crate::commands::TEXT;
 use crate::row::Named;
 use crate::words::Words;
 use clap::builder::ValueParser;

@@ -1,7 +1,7 @@
 //! The words of the spacecraft's end.
 
 use crate::command_line::Command;
-use crate::word_fault::{WordFault, invalid, no_path};
+use crate::word_fault::{invalid, no_path};
 use crate::words::{STANDARD, Words};
 use std::alloc::Global;
 
