@@ -1,5 +1,5 @@
 -- The run in which a state is read back within other limits, computed by the definitions.
-use Rattle.std.proofs.Common.{◌≡◌, ◌∙◌, ap, sym, subst, refl, List, [], ◌∷◌, ◌++◌, map, reverse, Some, None, arith, inl, inr}
+use Rattle.std.proofs.Common.{◌≡◌, ◌∙◌, ap, sym, subst, refl, ℕ, List, [], ◌∷◌, ◌++◌, map, reverse, Some, None, arith, inl, inr}
 use Rattle.std.specs.FinMap as maps
 use Rattle.std.specs.FinMap.{get-empty}
 use Rattle.std.proofs.lemmas.List.Elements.{All-nil}
@@ -167,11 +167,25 @@ lives : CanAll usual (no_pair usual usual_memories)
 lives can =
     let first = can.0.0.0.0.0.0.0.0.0 in
     let deleted = came_before (after_all usual (no_pair usual usual_memories) before).ends
-    first_of_seven can.0.0.0.0.0.0.1 in
-    let left = (((first, fits), deleted), ((first, refl), bound)) in
-    let two = ((left, can.0.0.0.0.0.0.1), can.0.0.0.0.0.1) in
-    let ticked = ((two, can.0.0.0.0.1), can.0.0.0.1) in
-    (((ticked, can.0.0.1), can.0.1), can.1)
+    first_of_seven can.0.0.0.0.0.0.1 in (
+      (
+        (
+          (
+            (
+              (
+                ((((first, fits), deleted), ((first, refl), bound)), can.0.0.0.0.0.0.1),
+                can.0.0.0.0.0.1,
+              ),
+              can.0.0.0.0.1,
+            ),
+            can.0.0.0.1,
+          ),
+          can.0.0.1,
+        ),
+        can.0.1,
+      ),
+      can.1,
+    )
 
 pub record IsResumed : Type 0 where
   pub can : CanLiveAll usual (no_pair usual usual_memories) (just_written usual unwritten)
