@@ -1,7 +1,7 @@
 -- The text of items.
 use Rattle.std.proofs.Common.{◌≡◌, ◌∙◌, ap, sym, refl, ℕ, List, [], ◌∷◌, ◌++◌, append-nil, append_assoc}
 use Rattle.lpt_list.specs.declared.form.Form.{Form}
-use Rattle.lpt_list.specs.Items.{Item, item_text, items_text, json_name}
+use Rattle.lpt_list.specs.Items.{Item, item_text, items_text}
 use Rattle.lpt_list.specs.Lists.{closing, line_of, opening}
 
 -- items behind others are written behind them
@@ -29,7 +29,23 @@ line_parts form place xs ys =
     ap (λ l. l ++ closing form) (behind form (opening form place) xs ys)
     ∙ append_assoc (opening form place) (items_text form (xs ++ ys)) (closing form)
 
--- a name in JSON stands before what is named
-pub name_before : (name more : List ℕ)
-    → 44 ∷ 34 ∷ (name ++ (34 ∷ 58 ∷ more)) ≡ json_name name ++ more
-name_before name more = ap (λ l. 44 ∷ 34 ∷ l) (sym (append_assoc name (34 ∷ 58 ∷ []) more))
+-- three pieces that are added one by one
+pub added-three : (old s1 s2 x y z : List ℕ)
+    → s1 ≡ old ++ x
+    → s2 ≡ s1 ++ y
+    → s2 ++ z ≡ old ++ (x ++ (y ++ z))
+added-three old s1 s2 x y z a b =
+    ap (λ l. l ++ z) (b ∙ ap (λ l. l ++ y) a ∙ append_assoc old x y)
+    ∙ append_assoc old (x ++ y) z
+    ∙ ap (λ l. old ++ l) (append_assoc x y z)
+
+-- and four
+pub added-four : (old s1 s2 s3 w x y z : List ℕ)
+    → s1 ≡ old ++ w
+    → s2 ≡ s1 ++ x
+    → s3 ≡ s2 ++ y
+    → s3 ++ z ≡ old ++ (w ++ (x ++ (y ++ z)))
+added-four old s1 s2 s3 w x y z a b c =
+    added-three s1 s2 s3 x y z b c
+    ∙ ap (λ l. l ++ (x ++ (y ++ z))) a
+    ∙ append_assoc old w (x ++ (y ++ z))

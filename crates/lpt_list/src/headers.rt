@@ -5,10 +5,11 @@ ghost use Rattle.std.specs.String.{string_bytes};
 ghost use Rattle.lpt_packet.specs.Packets.{fields_of};
 ghost use Rattle.lpt_layout.specs.Messages.{message_said};
 ghost use Rattle.lpt_carried.specs.Times.{time_text};
-ghost use Rattle.lpt_list.specs.Items.{Number, Word, item_text, items_text, primary_items, type_text};
+ghost use Rattle.lpt_list.specs.Items.{items_text, primary_items, type_text};
 ghost use Rattle.lpt_list.specs.Said.{date_items, head_items, message_items, number_items, octet_items, octets_items, plain_items, short_number, time_items, user_items, width_items};
 
 use crate::Form;
+use crate::items::{add_named, add_number, add_word};
 use lpt_carried::{Tailored, TimeCode, time_text};
 use lpt_layout::{Layout, Message, Width};
 use lpt_packet::PacketKind;
@@ -42,15 +43,9 @@ pub(crate) fn add_primary(
     ensures { OnOk result (string_bytes text.new
         ≡ string_bytes text.old ++ items_text form (primary_items (fields_of kind apid count []))) }
 {
-    let kind = type_word(kind);
-    match form {
-        Form::Text => write!(text, " {kind} apid {apid} count {count}"),
-        Form::Json => write!(
-            text,
-            ",\"packet_type\":\"{kind}\",\"application_process_id\":{apid},\
-            \"packet_sequence_count\":{count}"
-        ),
-    }
+    add_named(text, form, "packet_type", type_word(kind))?;
+    add_number(text, form, "apid", "application_process_id", apid as u64)?;
+    add_number(text, form, "count", "packet_sequence_count", count as u64)
 }
 
 // Adds what the secondary header of a message of this type says.
@@ -126,14 +121,9 @@ fn add_flags(text: &mut String, form: Form, message: &Message<'_>) -> Result<(),
         ++ items_text form (head_items PacketKind.Tc (message_said message.now))) }
 {
     let (flags, service, subtype) = (message.flags, message.service, message.subtype);
-    match form {
-        Form::Text => write!(text, " flags {flags} service {service} subtype {subtype}"),
-        Form::Json => write!(
-            text,
-            ",\"acknowledgement_flags\":{flags},\"service_type\":{service},\
-            \"message_subtype\":{subtype}"
-        ),
-    }
+    add_number(text, form, "flags", "acknowledgement_flags", flags as u64)?;
+    add_number(text, form, "service", "service_type", service as u64)?;
+    add_number(text, form, "subtype", "message_subtype", subtype as u64)
 }
 
 // Adds those of telemetry.
@@ -142,14 +132,15 @@ fn add_status(text: &mut String, form: Form, message: &Message<'_>) -> Result<()
         ++ items_text form (head_items PacketKind.Tm (message_said message.now))) }
 {
     let (status, service, subtype) = (message.flags, message.service, message.subtype);
-    match form {
-        Form::Text => write!(text, " status {status} service {service} subtype {subtype}"),
-        Form::Json => write!(
-            text,
-            ",\"spacecraft_time_reference_status\":{status},\"service_type\":{service},\
-            \"message_subtype\":{subtype}"
-        ),
-    }
+    add_number(
+        text,
+        form,
+        "status",
+        "spacecraft_time_reference_status",
+        status as u64,
+    )?;
+    add_number(text, form, "service", "service_type", service as u64)?;
+    add_number(text, form, "subtype", "message_subtype", subtype as u64)
 }
 
 // Adds the source or the destination, if there is one.
@@ -183,24 +174,9 @@ fn add_width(
 {
     match width {
         Width::Absent => Ok(()),
-        Width::Octet | Width::Word | Width::Long => add_number(text, form, word, name, number),
-    }
-}
-
-// Adds a number behind its word.
-fn add_number(
-    text: &mut String,
-    form: Form,
-    word: &str,
-    name: &str,
-    number: u32,
-) -> Result<(), AllocError>
-    ensures { OnOk result (string_bytes text.new ≡ string_bytes text.old
-        ++ item_text form (Number word.now name.now number)) }
-{
-    match form {
-        Form::Text => write!(text, " {word} {number}"),
-        Form::Json => write!(text, ",\"{name}\":{number}"),
+        Width::Octet | Width::Word | Width::Long => {
+            add_number(text, form, word, name, number as u64)
+        }
     }
 }
 
@@ -261,7 +237,7 @@ fn add_plain(alloc: Global, text: &mut String, form: Form, time: &[u8]) -> Resul
         ++ items_text form (plain_items (short_number time.now) time.now)) }
 {
     match short_number(time) {
-        Some(number) => add_number(text, form, "time", "time", number),
+        Some(number) => add_number(text, form, "time", "time", number as u64),
         None => add_octets(alloc, text, form, "time", time),
     }
 }
@@ -295,17 +271,6 @@ fn add_octets(
     }
     let digits = hex::encode(alloc, octets)?;
     add_word(text, form, word, digits.as_str())
-}
-
-// Adds a word behind another, which is its name too.
-fn add_word(text: &mut String, form: Form, word: &str, value: &str) -> Result<(), AllocError>
-    ensures { OnOk result (string_bytes text.new ≡ string_bytes text.old
-        ++ item_text form (Word word.now word.now value.now)) }
-{
-    match form {
-        Form::Text => write!(text, " {word} {value}"),
-        Form::Json => write!(text, ",\"{word}\":\"{value}\""),
-    }
 }
 
 /// A text with another behind it. The only error is out of memory.

@@ -12,6 +12,7 @@ use crate::Form;
 use crate::areas::add_areas;
 use crate::choice::{direction_of, kind_in};
 use crate::headers::{add_message, add_primary};
+use crate::items::{add_number, add_word};
 use crate::parts::part_at;
 use crate::reports::add_reported;
 use crate::segments::print_refused;
@@ -215,24 +216,19 @@ fn add_part_fields(
     ensures { OnOk result (string_bytes text.new
         ≡ string_bytes text.old ++ items_text form (part_fields kind id number octets)) }
 {
-    let kind = kind.word();
-    match form {
-        Form::Text => write!(text, " part {kind} id {id} number {number} octets {octets}"),
-        Form::Json => write!(
-            text,
-            ",\"part\":\"{kind}\",\"large_message_transaction_identifier\":{id},\
-            \"part_sequence_number\":{number},\"part_octets\":{octets}"
-        ),
-    }
+    let name = "large_message_transaction_identifier";
+    add_word(text, form, "part", kind.word())?;
+    add_number(text, form, "id", name, id as u64)?;
+    add_number(text, form, "number", "part_sequence_number", number as u64)?;
+    add_number(text, form, "octets", "part_octets", octets as u64)
 }
 
 // Adds that a part of so many octets isn't read.
+#[tactic(auto, using(crate::proofs::ItemLemmas::behind))]
 fn add_unread(text: &mut String, form: Form, octets: usize) -> Result<(), AllocError>
     ensures { OnOk result (string_bytes text.new
         ≡ string_bytes text.old ++ items_text form (unread_items octets)) }
 {
-    match form {
-        Form::Text => write!(text, " part unread octets {octets}"),
-        Form::Json => write!(text, ",\"part\":\"unread\",\"part_octets\":{octets}"),
-    }
+    add_word(text, form, "part", "unread")?;
+    add_number(text, form, "octets", "part_octets", octets as u64)
 }

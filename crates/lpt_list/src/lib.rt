@@ -15,6 +15,7 @@ mod fronts;
 mod headers;
 mod heads;
 mod hints;
+mod items;
 mod lines;
 mod list_end;
 mod lister;

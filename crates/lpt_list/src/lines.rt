@@ -11,6 +11,7 @@ ghost use Rattle.lpt_list.specs.Lists.{closing, length_items, none_line, opening
 
 use crate::Form;
 use crate::heads::add_said;
+use crate::items::{add_number, push_number};
 use lpt_carried::Layouts;
 use lpt_layout::SeenAs;
 use lpt_packet::PacketFault;
@@ -47,10 +48,11 @@ fn line_front(alloc: Global, form: Form, place: u64, len: u64) -> Result<String,
         ≡ opening form place ++ items_text form (length_items len)) }
 {
     let mut text = String::with_capacity(alloc, LINE_ROOM)?;
-    match form {
-        Form::Text => text.write(format_args!("{place} length {len}"))?,
-        Form::Json => text.write(format_args!("{{\"place\":{place},\"length\":{len}"))?,
+    if let Form::Json = form {
+        text.push_str("{\"place\":")?;
     }
+    push_number(&mut text, place)?;
+    add_number(&mut text, form, "length", "length", len)?;
     Ok(text)
 }
 
