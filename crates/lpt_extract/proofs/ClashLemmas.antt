@@ -1,12 +1,11 @@
 -- The addresses at which an area differs from what stands, one after the other.
-use Rattle.std.proofs.Common.{◌≡◌, ◌∙◌, ap, sym, refl, subst, ℕ, ◌+◌, ◌-◌, ◌<◌, ◌≤◌, ◌==◌, ◌||◌, ◌&&◌}
-use Rattle.std.proofs.Common.{inl, inr, nat_lt, nat_le, not, Bool, true, false, List, [], ◌∷◌, ◌++◌}
+use Rattle.std.proofs.Common.{◌≡◌, ◌∙◌, ap, sym, refl, subst, ℕ, ◌+◌, ◌-◌, ◌<◌, ◌≤◌, ◌==◌, ◌||◌}
+use Rattle.std.proofs.Common.{◌&&◌}
+use Rattle.std.proofs.Common.{nat_lt, Bool, true, false, List, [], ◌∷◌, ◌++◌}
 use Rattle.std.proofs.Common.{length, get_or, append_assoc, append-nil, arith}
-use Rattle.std.proofs.lemmas.Bool.{cases_lt}
 use Rattle.std.proofs.lemmas.Bool.Decides.{nat_tests}
 use Rattle.std.proofs.lemmas.List.Folds.{list_any-append}
 use Rattle.lpt_memory.specs.declared.request.Area.{Area}
-use Rattle.lpt_extract.specs.Areas.{end_of}
 use Rattle.lpt_extract.specs.ClashesInside.{is_other, is_unlike}
 use Rattle.lpt_extract.specs.CoversInside.{Covers}
 use Rattle.lpt_extract.specs.Gaps.{has, is_given, Gap}
@@ -38,7 +37,11 @@ module _ (from : ℕ) (standing : List ℕ) (gaps : List Gap) (a : Area) where
       → Told told at c
       → (more : List Area) × Covers 0 (told ++ more) c
       × ((n : ℕ) → is_given more n ≡ is_unlike from standing gaps a n)
-  told-all told at c long h = (h.0, h.1, λ n. h.2 n ∙ all n (is_other from standing gaps n (get_or a.octets (n - a.address) 0))) where
+  told-all told at c long h = (
+    h.0,
+    h.1,
+    λ n. h.2 n ∙ all n (is_other from standing gaps n (get_or a.octets (n - a.address) 0)),
+  ) where
     all : (n : ℕ) (t : Bool) → ((has a n && t) && nat_lt n (a.address + at)) ≡ (has a n && t)
     all n true = grind (arith, nat_tests, long)
     all n false = grind (arith, nat_tests, long)
@@ -55,7 +58,8 @@ module _ (from : ℕ) (standing : List ℕ) (gaps : List Gap) (a : Area) where
 
     here : is_unlike from standing gaps a (a.address + at) ≡ false
     here =
-        ap (λ k. has a (a.address + at) && is_other from standing gaps (a.address + at) (get_or a.octets k 0))
+        ap (λ k. has a (a.address + at)
+        && is_other from standing gaps (a.address + at) (get_or a.octets k 0))
         (omega arith)
         ∙ ap (λ t. has a (a.address + at) && t) same ∙ off (has a (a.address + at))
 
@@ -86,7 +90,8 @@ module _ (from : ℕ) (standing : List ℕ) (gaps : List Gap) (a : Area) where
   told-other told at old new some other add h = (
     h.0 ++ one ∷ [],
     subst (λ t. Covers 0 t new) (append_assoc told h.0 (one ∷ [])) (add (told ++ h.0) h.1),
-    λ n. list_any-append (λ a. has a n) h.0 (one ∷ []) ∙ ap (λ t. t || (has one n || false)) (h.2 n) ∙ next n,
+    λ n. list_any-append (λ a. has a n) h.0 (one ∷ [])
+        ∙ ap (λ t. t || (has one n || false)) (h.2 n) ∙ next n,
   ) where
     one : Area
     one = one_at (a.address + at) (get_or a.octets at 0)
@@ -94,7 +99,8 @@ module _ (from : ℕ) (standing : List ℕ) (gaps : List Gap) (a : Area) where
     there : is_unlike from standing gaps a (a.address + at) ≡ true
     there =
         let mine : has a (a.address + at) ≡ true = grind (arith, nat_tests, some) in
-        ap (λ k. has a (a.address + at) && is_other from standing gaps (a.address + at) (get_or a.octets k 0))
+        ap (λ k. has a (a.address + at)
+        && is_other from standing gaps (a.address + at) (get_or a.octets k 0))
         (omega arith)
         ∙ ap (λ t. has a (a.address + at) && t) other ∙ ap (λ t. t && true) mine
 

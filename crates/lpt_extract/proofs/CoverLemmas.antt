@@ -13,7 +13,7 @@ use Rattle.lpt_extract.proofs.ImageLemmas.{extent-more}
 -- ---- which addresses are given
 
 -- none where no area ends
-none-behind : (areas : List Area) (n : ℕ) → extent areas ≤ n → is_given areas n ≡ false
+pub none-behind : (areas : List Area) (n : ℕ) → extent areas ≤ n → is_given areas n ≡ false
 none-behind [] n h = refl
 none-behind (a ∷ areas) n h =
     let first : has a n ≡ false = grind (arith, h) in

@@ -24,12 +24,14 @@ use Rattle.lpt_extract.specs.declared.seen_area.SeenArea.{SeenArea}
 use Rattle.lpt_extract.specs.declared.wanted.ImagePlace.{ImagePlace}
 use Rattle.lpt_extract.specs.declared.wanted.Wanted.{Wanted}
 use Rattle.lpt_extract.specs.Areas.{all_octets, end_of, extent}
-use Rattle.lpt_extract.specs.Extracts.{is_of, start, whole_areas, areas_written, written_first, areas_in, notices_at, notices_in, areas_of, notices_of, Ends, LeavesFront}
+use Rattle.lpt_extract.specs.Extracts.{is_of, start, whole_areas, areas_written, written_first, areas_in, notices_at, notices_in, areas_of, notices_of, AreClashing, AreMissing, Ends, LeavesFront}
+use Rattle.lpt_extract.specs.ClashesInside.{Tells}
 use Rattle.lpt_extract.specs.CoversInside.{gaps_of}
-use Rattle.lpt_extract.specs.Gaps.{is_given, AreGaps}
+use Rattle.lpt_extract.specs.Gaps.{is_given, AreGaps, Gap}
 use Rattle.lpt_extract.specs.ExtractsInside.{areas_given, told_of, written_last, EndsBy, HasImage, HeldAreas}
 use Rattle.lpt_extract.specs.ImagesInside.{end_of_image, octets_of_image}
 use Rattle.lpt_extract.specs.Notices.{is_taken, notice, untaken, Hears}
+use Rattle.lpt_extract.proofs.ContradictLemmas.{told-are}
 use Rattle.lpt_extract.proofs.ImageLemmas.{extent-more, image-none}
 use Rattle.lpt_extract.specs.Reports.{Saying, Areas, report_in}
 use Rattle.lpt_extract.specs.ReportsInside.{load_area}
@@ -119,9 +121,10 @@ pub image-held-none : (at : Option ImagePlace) (i : Image)
     → end_of_image i ≡ 0
     → gaps_of i.cover ≡ []
     → octets_of_image i ≡ []
+    → ((from : ℕ) → Tells from [] i.clashes)
     → HasImage at [] i
-image-held-none None i end gaps octets = (end, gaps)
-image-held-none (Some p) i end gaps octets = record {
+image-held-none None i end gaps octets told = (end, gaps)
+image-held-none (Some p) i end gaps octets told = record {
   covers = record {
     end_is = end;
     gaps_are = subst (AreGaps (is_given []) p.from 0) (sym gaps)
@@ -129,7 +132,24 @@ image-held-none (Some p) i end gaps octets = record {
     reached = λ h. absurd (omega (arith, h));
   };
   octets_are = λ fits. octets ∙ image-none p.from p.fill;
+  clashes_are = λ fits. told p.from;
 }
+
+-- what is missing of an image that is held
+pub missing-held : (at : Option ImagePlace) (areas : List Area) (i : Image) (gaps : List Gap)
+    → gaps ≡ gaps_of i.cover
+    → HasImage at areas i
+    → AreMissing at areas gaps
+missing-held None areas i gaps is h = is ∙ h.1
+missing-held (Some p) areas i gaps is h =
+    subst (AreGaps (is_given areas) p.from (extent areas)) (sym is) h.covers.gaps_are
+
+-- what is told of it
+pub clashing-held : (at : Option ImagePlace) (areas : List Area) (i : Image)
+    → HasImage at areas i
+    → AreClashing at areas i.clashes
+clashing-held None areas i h = tt
+clashing-held (Some p) areas i h = λ fits. told-are p.from areas i.clashes (h.clashes_are fits)
 
 -- an area more that isn't put into an image
 pub image-held-next : (at : Option ImagePlace) (before : List Area) (a : Area) (i j : Image)
@@ -311,3 +331,15 @@ part-by at areas u Written a b c h k = part_whole a c _ (Appends-kept a b c _ h.
 part-by at areas u Nothing a b c h k = part_of_nothing a c _ (Appends-kept a b c [] h.1 k)
 part-by at areas u (TooLarge n) a b c h k = part_of_nothing a c _ (Appends-kept a b c [] h.1 k)
 part-by at areas u NotWhole a b c h k = part_of_nothing a c _ (Appends-kept a b c [] h.3 k)
+
+-- and all of it, if that is passed on
+pub by-kept : (at : Option ImagePlace) (areas : List Area) (u : Bool) (e : ExtractEnd)
+    (a b c : Option (List ℕ))
+    → EndsBy at areas u e a b
+    → Keeps b c
+    → EndsBy at areas u e a c
+by-kept at areas u Written a b c h k =
+    (h.0, h.1, h.2, Appends-kept a b c (written_last at areas) h.3 k)
+by-kept at areas u Nothing a b c h k = (h.0, Appends-kept a b c [] h.1 k)
+by-kept at areas u (TooLarge n) a b c h k = (h.0, Appends-kept a b c [] h.1 k)
+by-kept at areas u NotWhole a b c h k = (h.0, h.1, h.2, Appends-kept a b c [] h.3 k)

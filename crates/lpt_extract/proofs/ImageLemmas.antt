@@ -71,7 +71,7 @@ drop-padded f xs n v =
 
 -- ---- within what is there
 
-length-put_at : (content : List ℕ) (at : ℕ) (octets : List ℕ)
+pub length-put_at : (content : List ℕ) (at : ℕ) (octets : List ℕ)
     → at + length octets ≤ length content
     → length (put_at content at octets) ≡ length content
 length-put_at content at octets fit =
@@ -95,13 +95,13 @@ put_at-behind content more at octets fit =
     ∙ ap (λ ys. (take at content ++ octets) ++ ys) (drop-append-le n content more fit)
     ∙ sym (append_assoc (take at content ++ octets) (drop n content) more)
 
-fit-put_at : (content : List ℕ) (a : Area) (rest : List Area)
+pub fit-put_at : (content : List ℕ) (a : Area) (rest : List Area)
     → AreasFit (length content) (a ∷ rest)
     → AreasFit (length (put_at content a.address a.octets)) rest
 fit-put_at content a rest fit =
     subst (λ n. AreasFit n rest) (sym (length-put_at content a.address a.octets fit.0)) fit.1
 
-length-put_all : (content : List ℕ) (areas : List Area)
+pub length-put_all : (content : List ℕ) (areas : List Area)
     → AreasFit (length content) areas
     → length (put_all content areas) ≡ length content
 length-put_all content [] fit = refl
@@ -129,7 +129,7 @@ pub extent-more : (areas : List Area) (a : Area) → extent (areas ++ a ∷ []) 
 extent-more [] a = omega arith
 extent-more (b ∷ areas) a = let rest = extent-more areas a in omega (arith, rest)
 
-extent-fits : (n : ℕ) (areas : List Area) → extent areas ≤ n → AreasFit n areas
+pub extent-fits : (n : ℕ) (areas : List Area) → extent areas ≤ n → AreasFit n areas
 extent-fits n [] h = tt
 extent-fits n (a ∷ areas) h = (omega (arith, h), extent-fits n areas (omega (arith, h)))
 

@@ -179,6 +179,7 @@ pub joined-ends : (w : Wanted) (r : Reads) (x : Extracted) (ps : List Piece)
 joined-ends w r x ps old mid new heard hears wrote told ends = record {
   ends = ends-by w.at (areas_in w (reads r (packets_of ps))) _ x.end old mid new wrote ends.by;
   missing = ends.missing;
+  clashing = ends.clashing;
   told = told;
   counted = ends.counted;
 }

@@ -1,4 +1,5 @@
 mod ClashLemmas
+mod ContradictLemmas
 mod CoverLemmas
 mod EntryLemmas
 mod GapLemmas

@@ -1,14 +1,19 @@
 -- Which addresses areas gave different octets for.
-use Rattle.std.specs.Prelude.{ℕ, ◌-◌, ◌==◌, ◌&&◌, nat_le, nat_lt, not, Bool, List, length, get_or}
+use Rattle.std.specs.Prelude.{◌≡◌, ℕ, ◌-◌, ◌==◌, ◌&&◌, nat_le, nat_lt, not, Bool, List, length}
+use Rattle.std.specs.Prelude.{get_or}
 use Rattle.std.specs.List.{list_any}
 use Rattle.lpt_memory.specs.declared.request.Area.{Area}
 use Rattle.lpt_extract.specs.declared.clashes.Clashes.{Clashes}
-use Rattle.lpt_extract.specs.declared.cover.Cover.{Cover}
-use Rattle.lpt_extract.specs.Gaps.{has, Gap}
+use Rattle.lpt_extract.specs.Clashes.{cover_of}
+use Rattle.lpt_extract.specs.Contradictions.{is_contradicted}
+use Rattle.lpt_extract.specs.CoversInside.{Covers}
+use Rattle.lpt_extract.specs.Gaps.{has, is_given, Gap}
 
--- the addresses that are told, as a cover of areas that have them
-abbrev pub cover_of : Clashes → Cover
-cover_of c = c.cover
+-- the addresses from one on for which these areas gave different octets are told, and no others
+pub record Tells (from : ℕ) (areas : List Area) (c : Clashes) : Type 0 where
+  pub told : List Area
+  pub covers : Covers 0 told (cover_of c)
+  pub are : (n : ℕ) → is_given told n ≡ is_contradicted from areas n
 
 -- whether an address is in one of these gaps
 abbrev pub is_in : List Gap → ℕ → Bool

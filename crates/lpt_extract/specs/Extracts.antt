@@ -22,6 +22,8 @@ use Rattle.lpt_extract.specs.declared.notice.Notice.TheVariants as notices
 use Rattle.lpt_extract.specs.declared.wanted.ImagePlace.{ImagePlace}
 use Rattle.lpt_extract.specs.declared.wanted.Wanted.{Wanted}
 use Rattle.lpt_extract.specs.Areas.{all_octets, extent, image, image_limit}
+use Rattle.lpt_extract.specs.Clashes.{AreTold}
+use Rattle.lpt_extract.specs.declared.clashes.Clashes.{Clashes}
 use Rattle.lpt_extract.specs.Gaps.{gaps_in, is_given, AreGaps, Gap}
 use Rattle.lpt_extract.specs.Notices.{is_taken, notice, Hears}
 use Rattle.lpt_extract.specs.Reports.{Saying, Other, APart, Foreign, Unread, Areas, report_in}
@@ -128,6 +130,12 @@ abbrev pub AreMissing : Option ImagePlace → List Area → List Gap → Type 0
 AreMissing None areas gaps = gaps ≡ []
 AreMissing (Some p) areas gaps = AreGaps (is_given areas) p.from (extent areas) gaps
 
+-- the addresses of the image for which areas gave different octets are told, if it isn't too large;
+-- without an image none
+abbrev pub AreClashing : Option ImagePlace → List Area → Clashes → Type 0
+AreClashing None areas c = Unit {0}
+AreClashing (Some p) areas c = extent areas - p.from ≤ image_limit → AreTold p.from areas c
+
 -- how a stream of these packets is cut: by checksums, if they have one
 abbrev pub cut_of : Wanted → Cut
 cut_of w = cut_for w.layout.has_checksum
@@ -144,6 +152,7 @@ pub record ExtractsTo (w : Wanted) (x : Extracted) (before after old new : Optio
   pub ends : Ends w.at (areas_in w (packets_of pieces))
       (is_unbroken (gaps_in x.gaps) x.tally.passed) x.end old new
   pub missing : AreMissing w.at (areas_in w (packets_of pieces)) (gaps_in x.gaps)
+  pub clashing : AreClashing w.at (areas_in w (packets_of pieces)) x.clashes
   pub told : Hears heard hears (notices_in w 0 pieces)
   pub counted : IsTally (notices_in w 0 pieces) x.tally
 

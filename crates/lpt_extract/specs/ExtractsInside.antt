@@ -16,7 +16,7 @@ use Rattle.lpt_extract.specs.declared.seen_area.SeenArea.{SeenArea}
 use Rattle.lpt_extract.specs.declared.wanted.ImagePlace.{ImagePlace}
 use Rattle.lpt_extract.specs.Areas.{extent, image}
 use Rattle.lpt_extract.specs.CoversInside.{gaps_of}
-use Rattle.lpt_extract.specs.Extracts.{areas_in, is_unbroken, notices_in, AreMissing, start, suits, whole_areas, Fits, IsTooLarge}
+use Rattle.lpt_extract.specs.Extracts.{areas_in, is_unbroken, notices_in, AreClashing, AreMissing, start, suits, whole_areas, Fits, IsTooLarge}
 use Rattle.lpt_extract.specs.Gaps.{gaps_in}
 use Rattle.lpt_extract.specs.ImagesInside.{end_of_image, Imaged}
 use Rattle.lpt_extract.specs.Notices.{notice, Hears}
@@ -68,6 +68,7 @@ pub record EndsAs (at : Option ImagePlace) (areas : List Area) (ns : List Notice
     (old new : Option (List ℕ)) : Type 0 where
   pub by : EndsBy at areas (is_unbroken (gaps_in x.gaps) x.tally.passed) x.end old new
   pub missing : AreMissing at areas (gaps_in x.gaps)
+  pub clashing : AreClashing at areas x.clashes
   pub counted : IsTally ns x.tally
 
 -- what the packets among pieces that begin at a place give is held, and was told

@@ -4,6 +4,7 @@ use Rattle.lpt_memory.specs.declared.request.Area.{Area}
 use Rattle.lpt_extract.specs.declared.image.Image.{Image}
 use Rattle.lpt_extract.specs.declared.wanted.ImagePlace.{ImagePlace}
 use Rattle.lpt_extract.specs.Areas.{extent, image, image_limit}
+use Rattle.lpt_extract.specs.ClashesInside.{Tells}
 use Rattle.lpt_extract.specs.CoversInside.{end_of_cover, Covers}
 
 -- the octets that it has
@@ -19,7 +20,9 @@ abbrev pub IsSize : ℕ → Option ℕ → Type 0
 IsSize n (Some size) = (size ≡ n) × (n ≤ image_limit)
 IsSize n None = image_limit < n
 
--- it has the gaps of these areas, and the image of them, if that isn't too large
+-- it has the gaps of these areas; and the image of them and the addresses for which they gave
+-- different octets, if that isn't too large
 pub record Imaged (p : ImagePlace) (areas : List Area) (i : Image) : Type 0 where
   pub covers : Covers p.from areas i.cover
   pub octets_are : extent areas - p.from ≤ image_limit → octets_of_image i ≡ image p.from p.fill areas
+  pub clashes_are : extent areas - p.from ≤ image_limit → Tells p.from areas i.clashes

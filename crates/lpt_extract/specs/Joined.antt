@@ -12,7 +12,7 @@ use Rattle.lpt_extract.specs.declared.extracted.Extracted.{Extracted}
 use Rattle.lpt_extract.specs.declared.notice.Notice.{Notice}
 use Rattle.lpt_extract.specs.declared.notice.Notice.TheVariants as notices
 use Rattle.lpt_extract.specs.declared.wanted.Wanted.{Wanted}
-use Rattle.lpt_extract.specs.Extracts.{areas_in, is_unbroken, notices_of, AreMissing, Ends, LeavesFront}
+use Rattle.lpt_extract.specs.Extracts.{areas_in, is_unbroken, notices_of, AreClashing, AreMissing, Ends, LeavesFront}
 use Rattle.lpt_extract.specs.Gaps.{gaps_in}
 use Rattle.lpt_extract.specs.Notices.{Hears}
 use Rattle.lpt_extract.specs.Reports.{report_in}
@@ -62,13 +62,14 @@ ReadsCut cut before after P =
     (stream : List ℕ) × (pieces : List Piece)
     × Consumes before after stream × IsAtEnd after × CutsBy cut stream pieces × P pieces
 
--- of a stream of these pieces what its packets give was written; what is missing and what wasn't
--- taken was told
+-- of a stream of these pieces what its packets give was written; what is missing, what clashes and
+-- what wasn't taken was told
 pub record ExtractsJoined (w : Wanted) (r : Reads) (x : Extracted) (pieces : List Piece)
     (old new : Option (List ℕ)) (heard hears : Option (List Notice)) : Type 0 where
   pub ends : Ends w.at (areas_in w (reads r (packets_of pieces)))
       (is_unbroken (gaps_in x.gaps) x.tally.passed) x.end old new
   pub missing : AreMissing w.at (areas_in w (reads r (packets_of pieces))) (gaps_in x.gaps)
+  pub clashing : AreClashing w.at (areas_in w (reads r (packets_of pieces))) x.clashes
   pub told : Hears heard hears (joined_in w r [] 0 pieces)
   pub counted : IsTally (joined_in w r [] 0 pieces) x.tally
 

@@ -1,5 +1,7 @@
 pub mod Areas
+pub mod Clashes
 pub mod ClashesInside
+pub mod Contradictions
 pub mod CoversInside
 pub mod Extracts
 pub mod ExtractsInside

@@ -21,7 +21,8 @@ pub struct Clashes {
 impl Clashes {
     ghost use Rattle.std.specs.Prelude.{◌≡◌, ◌≤◌, ◌==◌, ◌++◌, List, ℕ, [], length, not, OnOk};
     ghost use Rattle.lpt_memory.specs.declared.request.Area.{Area};
-    ghost use Rattle.lpt_extract.specs.ClashesInside.{cover_of, is_unlike};
+    ghost use Rattle.lpt_extract.specs.Clashes.{cover_of};
+    ghost use Rattle.lpt_extract.specs.ClashesInside.{is_unlike};
     ghost use Rattle.lpt_extract.specs.CoversInside.{end_of_cover, gaps_of, Ascend, Covers};
     ghost use Rattle.lpt_extract.specs.Gaps.{gaps_in, is_given};
 
@@ -69,8 +70,10 @@ impl Clashes {
 
         // Those addresses are told, besides, at which it does, and no others.
         ensures { (told : List Area) → Ascend (gaps_in gaps.now)
-            → Covers 0 told (cover_of self.old) → OnOk result ((more : List Area) × Covers 0 (told ++ more) (cover_of self.new)
-            × ((n : ℕ) → is_given more n ≡ is_unlike from standing.now (gaps_in gaps.now)
+            → Covers 0 told (cover_of self.old) → OnOk result ((more : List Area)
+            × Covers 0 (told ++ more) (cover_of self.new)
+            × ((n : ℕ) → is_given more n
+            ≡ is_unlike from standing.now (gaps_in gaps.now)
             (record { address = address; octets = area.now }) n)) }
     {
         let mut at = 0;

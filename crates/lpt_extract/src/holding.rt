@@ -52,6 +52,7 @@ impl Holding {
     pub(crate) fn into_extracted(self, end: ExtractEnd) -> Extracted
         ensures end { result.end ≡ end }
         ensures gaps { gaps_in result.gaps ≡ gaps_of self.image.cover }
+        ensures clashes { result.clashes ≡ self.image.clashes }
         ensures tally { result.tally ≡ self.tally }
     {
         let Holding { image, tally } = self;

@@ -20,9 +20,10 @@ pub(crate) struct Image {
 }
 
 impl Image {
-    ghost use Rattle.std.specs.Prelude.{◌≡◌, ◌==◌, ◌+◌, ◌-◌, ◌++◌, ◌∷◌, List, [], drop, replicate, max, not, OnOk};
+    ghost use Rattle.std.specs.Prelude.{◌≡◌, ◌==◌, ◌+◌, ◌-◌, ◌++◌, ◌∷◌, ℕ, List, [], drop, replicate, max, not, OnOk};
     ghost use Rattle.lpt_memory.specs.declared.request.Area.{Area};
     ghost use Rattle.lpt_memory.specs.Memories.{put_at};
+    ghost use Rattle.lpt_extract.specs.ClashesInside.{Tells};
     ghost use Rattle.lpt_extract.specs.CoversInside.{gaps_of};
     ghost use Rattle.lpt_extract.specs.Gaps.{gaps_in};
     ghost use Rattle.lpt_extract.specs.ImagesInside.{end_of_image, octets_of_image, Imaged, IsSize};
@@ -32,6 +33,7 @@ impl Image {
         ensures octets { octets_of_image result ≡ [] }
         ensures end { end_of_image result ≡ 0 }
         ensures gaps { gaps_of result.cover ≡ [] }
+        ensures clashes { (from : ℕ) → Tells from [] result.clashes }
     {
         Image {
             octets: Vec::new(alloc),
@@ -56,7 +58,8 @@ impl Image {
 
     // The gaps, and where areas contradict one another.
     pub(crate) fn into_gaps(self) -> (BTreeMap<u64, u64>, Clashes)
-        ensures { gaps_in result.0 ≡ gaps_of self.cover }
+        ensures gaps { gaps_in result.0 ≡ gaps_of self.cover }
+        ensures clashes { result.1 ≡ self.clashes }
     {
         let Image {
             octets: _,
@@ -78,6 +81,7 @@ impl Image {
         requires { len ≤ 65535 }
         ensures end { end_of_image self.new ≡ max (end_of_image self.old) (address + len) }
         ensures gaps { gaps_of self.new.cover ≡ gaps_of self.old.cover }
+        ensures clashes { self.new.clashes ≡ self.old.clashes }
     {
         self.cover.reach(u64::from(address) + len as u64);
     }
@@ -124,6 +128,7 @@ impl Image {
         ensures octets { OnOk result (octets_of_image self.new ≡ octets_of_image self.old
             ++ replicate (size - length (octets_of_image self.old)) fill) }
         ensures cover { self.new.cover ≡ self.old.cover }
+        ensures clashes { self.new.clashes ≡ self.old.clashes }
     {
         if self.octets.len() < size {
             self.octets.resize(size, fill)?;
@@ -137,6 +142,7 @@ impl Image {
         ensures octets { octets_of_image self.new ≡ put_at (octets_of_image self.old)
             (address - from) (drop (from - address) octets.now) }
         ensures cover { self.new.cover ≡ self.old.cover }
+        ensures clashes { self.new.clashes ≡ self.old.clashes }
     {
         let skipped = from.saturating_sub(address) as usize;
         let at = address.saturating_sub(from) as usize;

@@ -55,6 +55,7 @@ returns-clause-ends g c =
       cut = read.4;
       ends = ends-by w.at areas _ x.end old mid new read.5.1 as_is.by;
       missing = as_is.missing;
+      clashing = as_is.clashing;
       told = told;
       counted = as_is.counted;
     })

@@ -1,7 +1,8 @@
 -- Octet after octet.
-use Rattle.std.proofs.Common.{◌≡◌, ◌∙◌, ◌+◌, ap, sym, subst, get_or, true, false, arith}
+use Rattle.std.proofs.Common.{◌≡◌, ◌∙◌, ◌+◌, ap, sym, subst, get_or, arith}
 use Rattle.lpt_memory.specs.declared.request.Area.{Area}
-use Rattle.lpt_extract.specs.ClashesInside.{cover_of, is_other}
+use Rattle.lpt_extract.specs.Clashes.{cover_of}
+use Rattle.lpt_extract.specs.ClashesInside.{is_other}
 use Rattle.lpt_extract.specs.CoversInside.{Ascend}
 use Rattle.lpt_extract.specs.Gaps.{gaps_in}
 use Rattle.lpt_extract.specs.declared.clashes.Clashes.{Clashes}
@@ -25,21 +26,24 @@ loop-at-preserved c =
     let gaps = gaps_in c.args.gaps.now in
     let a : Area = record { address = c.args.address; octets = c.args.area.now } in
     let octet = get_or a.octets at 0 in
-    let there : Ascend gaps → is_other from standing gaps (a.address + at) octet ≡ c.is_other.result =
+    let there : Ascend gaps
+    → is_other from standing gaps (a.address + at) octet ≡ c.is_other.result =
     λ up. ap (λ k. is_other from standing gaps (k + at) octet) (sym c.from.ensures)
     ∙ sym (c.is_other.ensures up) in
     record {
       few = omega (arith, c.loop-at-test.true);
       told = λ told up h. elim c.if-is_other.branch [
         | then-is_other+in_ok-add w ↦
-            subst (λ (s : Clashes). Told from standing gaps a told (at + 1) (cover_of s)) (sym w.self-is)
+            subst (λ (s : Clashes). Told from standing gaps a told (at + 1) (cover_of s))
+            (sym w.self-is)
             (told-other from standing gaps a told at (cover_of c.loop-at.self) w.add.new.self
             c.loop-at-test.true (there up ∙ w.if-is_other.true)
             (λ areas. w.in_ok-add.ensures.gaps areas (one_at (a.address + at) octet)
             (omega (arith, c.from.ensures)) (omega (arith, c.from.ensures)))
             (c.loop-at.invariant.told told up h))
         | else-is_other w ↦
-            subst (λ (s : Clashes). Told from standing gaps a told (at + 1) (cover_of s)) (sym w.self-is)
+            subst (λ (s : Clashes). Told from standing gaps a told (at + 1) (cover_of s))
+            (sym w.self-is)
             (told-same from standing gaps a told at (cover_of c.loop-at.self)
             (there up ∙ w.if-is_other.false) (c.loop-at.invariant.told told up h))
       ];
@@ -49,4 +53,5 @@ pub returns : goal.returns
 returns c = λ told up h.
     told-all c.args.from c.args.standing.now (gaps_in c.args.gaps.now)
     (record { address = c.args.address; octets = c.args.area.now }) told c.loop-at.at
-    (cover_of c.loop-at.self) (omega (arith, c.loop-at-test.false)) (c.loop-at.invariant.told told up h)
+    (cover_of c.loop-at.self) (omega (arith, c.loop-at-test.false))
+    (c.loop-at.invariant.told told up h)

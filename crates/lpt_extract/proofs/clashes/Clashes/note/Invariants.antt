@@ -1,7 +1,7 @@
 -- What is told of the octets in front.
 use Rattle.std.proofs.Common.{◌≤◌, ◌-◌, List, length}
 use Rattle.lpt_memory.specs.declared.request.Area.{Area}
-use Rattle.lpt_extract.specs.ClashesInside.{cover_of}
+use Rattle.lpt_extract.specs.Clashes.{cover_of}
 use Rattle.lpt_extract.specs.CoversInside.{Ascend, Covers}
 use Rattle.lpt_extract.specs.Gaps.{gaps_in}
 use Rattle.lpt_extract.proofs.ClashLemmas.{Told}

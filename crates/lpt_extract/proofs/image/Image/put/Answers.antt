@@ -3,9 +3,13 @@ use Rattle.std.proofs.Common.{◌≡◌, ◌∙◌, ap, sym, subst, ◌-◌, ◌
 use Rattle.lpt_memory.specs.declared.request.Area.{Area}
 use Rattle.lpt_memory.specs.Memories.{put_at}
 use Rattle.lpt_extract.specs.Areas.{end_of, extent}
+use Rattle.lpt_extract.specs.ClashesInside.{Tells}
 use Rattle.lpt_extract.specs.CoversInside.{Covers}
+use Rattle.lpt_extract.specs.Gaps.{gaps_in, is_given, AreGaps}
 use Rattle.lpt_extract.specs.ImagesInside.{octets_of_image}
+use Rattle.lpt_extract.proofs.ContradictLemmas.{tells-more}
 use Rattle.lpt_extract.proofs.ImageLemmas.{extent-more, image-more}
+use Rattle.lpt_extract.proofs.PartLemmas.{ascend}
 use Rattle.lpt_extract.proofs.image.Image.put.Goals as goal
 
 -- it is too large
@@ -18,6 +22,7 @@ returns-in_default c = λ areas h.
     record {
       covers = covers;
       octets_are = λ fits. absurd (omega (arith, covers.end_is, fits, c.in_default.ensures));
+      clashes_are = λ fits. absurd (omega (arith, covers.end_is, fits, c.in_default.ensures));
     }
 
 -- the area was put over it
@@ -43,4 +48,16 @@ returns c = λ areas h.
           ∙ ap (λ n. old ++ replicate (n - length old) fill) size
           )
           ∙ image-more from fill areas a old was;
+      clashes_are = λ fits.
+          let was = h.octets_are (omega (arith, fits, more)) in
+          let told = h.clashes_are (omega (arith, fits, more)) in
+          let gaps = gaps_in c.gaps.result.now in
+          let are = subst (AreGaps (is_given areas) from (extent areas)) (sym c.gaps.ensures)
+          h.covers.gaps_are in
+          subst (Tells from (areas ++ a ∷ []))
+          (sym (c.lay.ensures.clashes ∙ c.in_ok-grow.ensures.clashes))
+          (tells-more from fill areas a c.deref.result.now gaps (c.deref.ensures.value ∙ was) are
+          c.args.self.now.clashes c.note.new.self told
+          (c.in_ok-note.ensures told.told (ascend (is_given areas) from (extent areas) gaps are)
+          told.covers));
     }
