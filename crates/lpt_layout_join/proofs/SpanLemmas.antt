@@ -120,6 +120,22 @@ span-behind [] i h = refl
 span-behind (s ∷ ss) i h =
     first-isnt s ss i (omega (arith, h)) ∙ span-behind ss i (omega (arith, h))
 
+below-end : (ss : List Span) (j : ℕ) (d : Span)
+    → j < length ss
+    → (slice_index_or ss j d).place < end_of ss
+below-end [] j d less = absurd (omega (arith, less))
+below-end (s ∷ ss) zero d less = omega arith
+below-end (s ∷ ss) (suc j) d less = omega (arith, below-end ss j d (omega (arith, less)))
+
+-- so one stands there behind all of them
+pub last_place : (ss : List Span) (i : ℕ) → end_of ss ≤ i → IsPlaceOf i ss (length ss)
+last_place ss i h = record {
+  none = span-behind ss i h;
+  within = omega arith;
+  before = λ j d less. omega (arith, below-end ss j d less, h);
+  behind = λ j d from less. absurd (omega (arith, from, less));
+}
+
 -- the last ends last
 pub end-last : (ss : List Span) (d : Span) (n : ℕ)
     → Rise ss

@@ -40,6 +40,10 @@ pub(crate) fn find(spans: &[Span], place: usize) -> Result<usize, usize>
         × ((d : Span) → span_in spans.now place ≡ Some (slice_index_or spans.now k d))) }
     ensures none { IfErr result (λ k. IsPlaceOf place spans.now k) }
 {
+    // Most parts come behind those before them.
+    if end_of(spans) <= place {
+        return Err(spans.len());
+    }
     let index = spans.partition_point(|span| (span.place as usize) < place);
     if is_at(spans, index, place) {
         return Ok(index);
