@@ -108,6 +108,9 @@ def effect_x86_64(it: Instruction, depth: int, frame: int) -> Effect:
         return Effect(depth, depth)
     if it.words == "movq %rbp, %rsp":
         return Effect(frame, frame)
+    above = re.match(r"^leaq (-?\d+)\(%rsp\), %rsp$", it.words)
+    if above:
+        return Effect(depth - int(above[1]), frame)
     below = re.match(r"^leaq -(\d+)\(%rbp\), %rsp$", it.words)
     if below:
         return Effect(frame + int(below[1]), frame)

@@ -695,6 +695,16 @@ local function next_sealed(cut, at)
     return at
 end
 
+-- Whether a packet with a right checksum begins behind this place and ends in front of that one: then what begins
+-- here is no damaged packet, since packets fill the octets that its header claims.
+local function ends_in_sealed(cut, at, after)
+    for inside = at + 1, after - 8 do
+        local high, low = cut.octets:byte(inside + 4, inside + 5)
+        if inside + 7 + high * 256 + low == after and is_sealed_at(cut, inside) then return true end
+    end
+    return false
+end
+
 -- The place behind the piece that begins here, the first test that it fails as a packet, whether it is what a
 -- header says is one, or octets up to the next packet, and whether it is a packet all the same.
 local function piece(cut, at)
@@ -703,8 +713,9 @@ local function piece(cut, at)
     if not fault then return at + #octets, nil, true end
     local after = at + #(octets or "")
     local is_sound = octets and is_of_flags(cut, octets, fault)
-    local is_piece = is_sound or octets and (cut.is_sealed and (after > #cut.octets or is_sealed_at(cut, after))
-        or not cut.is_sealed and fault ~= VERSION)
+    local is_passed = octets and cut.is_sealed and (after > #cut.octets or is_sealed_at(cut, after))
+        and not ends_in_sealed(cut, at, after)
+    local is_piece = is_sound or is_passed or octets and not cut.is_sealed and fault ~= VERSION
     return is_piece and after or next_sealed(cut, at), fault, is_piece, is_sound
 end
 

@@ -260,11 +260,25 @@ fn carry_all<R: PlainMachine, T: Wait + Clock + Drop, W: Write + Drop>(
         Job::Load { .. } => verify_load(rt, ears, words, errand, out),
         Job::Dump => write_dumps(rt, words, errand),
         Job::Check => {
-            let (teller, asked) = (ears.notes().teller, errand.first.requests_asked());
-            let alike = compare_all(rt, teller, errand, &errand.places, asked)?;
+            let alike = compare_checked(rt, ears.notes().teller, errand)?;
             Ok(status_of(!alike))
         }
     }
+}
+
+// Whether the octets that were checked are those of the files.
+fn compare_checked<R: PlainMachine>(
+    rt: &R,
+    teller: Teller,
+    errand: &Errand,
+) -> Result<bool, Failure> {
+    compare_all(
+        rt,
+        teller,
+        errand,
+        &errand.places,
+        errand.first.requests_asked(),
+    )
 }
 
 // Reads what was loaded, if that is asked for or the job goes on, and compares it.

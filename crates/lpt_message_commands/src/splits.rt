@@ -72,18 +72,32 @@ pub fn split<R: Machine>(
         Err(fault) => return Ok(word_refused(rt, rt.alloc(), &fault)),
     };
     let fill = Fill::new(config);
-    let wanted = Wanted {
-        writing: writing_of(config, tailored, &words.split, name, &fill),
-        id: name.id,
-        parts: words.parts.as_bytes(),
-        first: words.split.first,
-        whole: words.split.whole,
-    };
+    let wanted = wanted_of(config, tailored, &*words, name, &fill);
     let message = open_input(rt, words.split.file)?;
     let mut source = Keeping::new(rt.alloc(), message, LONGEST_PACKET)?;
     let status = split_from(rt, config, &layouts, words, &wanted, &mut source);
     drop(source);
     status
+}
+
+// What is wanted of the message.
+fn wanted_of<'a>(
+    config: &Config,
+    tailored: &Tailored,
+    words: &SplitOneWords<'a>,
+    name: WideName,
+    fill: &'a Fill,
+) -> Wanted<'a>
+    requires { IsConfig config.now }
+{
+    let writing = writing_of(config, tailored, &words.split, name, fill);
+    Wanted {
+        writing,
+        id: name.id,
+        parts: words.parts.as_bytes(),
+        first: words.split.first,
+        whole: words.split.whole,
+    }
 }
 
 /// The name that the words give, if the layout has room for it.

@@ -10,8 +10,8 @@ use crate::wires::{Wires, serve_kept};
 use lpt_command_line::{SettingWords, SpacecraftWords};
 use lpt_events::Config;
 use lpt_io::{
-    EndMachine, Failure, Fault, Machine, PlainMachine, Status, add_craft_files, add_settings_file,
-    failure_at, file_at, locked_file, settings_of, used_twice, word_refused,
+    EndMachine, Failure, Fault, Machine, PlainMachine, Status, UsedFile, add_craft_files,
+    add_settings_file, failure_at, file_at, locked_file, settings_of, used_twice, word_refused,
 };
 use lpt_memory::Memories;
 use lpt_spacecraft::Spacecraft;
@@ -43,9 +43,7 @@ where
     R: EndMachine,
     T: Threads + Wait + Clock + Copy + Drop + Send + 'static,
 {
-    let mut files = Vec::new(rt.alloc());
-    add_settings_file(&mut files, settings)?;
-    add_craft_files(&mut files, words)?;
+    let files = files_used(rt.alloc(), settings, words)?;
     if let Some(fault) = used_twice(rt, &files) {
         return Ok(word_refused(rt, rt.alloc(), &fault));
     }
@@ -54,6 +52,27 @@ where
     let ended = serve(rt, threads, begun, words, wires);
     drop(locks);
     ended
+}
+
+// The files that these words use. The only error is out of memory.
+fn files_used<'a>(
+    alloc: Global,
+    settings: &SettingWords<'a>,
+    words: &SpacecraftWords<'a>,
+) -> Result<Vec<UsedFile<'a>>, AllocError> {
+    let mut files = Vec::new(alloc);
+    add_files(&mut files, settings, words)?;
+    Ok(files)
+}
+
+// Adds them. The only error is out of memory.
+fn add_files<'a>(
+    files: &mut Vec<UsedFile<'a>>,
+    settings: &SettingWords<'a>,
+    words: &SpacecraftWords<'a>,
+) -> Result<(), AllocError> {
+    add_settings_file(files, settings)?;
+    add_craft_files(files, words)
 }
 
 /// A spacecraft that serves next.
