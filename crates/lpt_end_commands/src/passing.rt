@@ -131,25 +131,30 @@ fn memory_lost(rt: &impl AllocGlobal, path: &str, places: &Places) -> Failure {
     Failure::at(Fault::Read, place)
 }
 
-// The two ends of a pipe.
-type Ends<T> = (PipeWriter<T>, PipeReader<T>);
-
 // The pipes from ground to the link up, from that to the spacecraft, from there to the link down,
-// and back to ground. Once ground has ended, what still comes down is dropped; once the spacecraft
-// has, what goes up fails. What goes up waits for the spacecraft, for so long at most, so that
-// repeats don't pile up if its disk is slow; what comes down never waits, so that nobody waits for
-// ever.
+// and back to ground.
+#[derive(Drop)]
+struct Pipes<T: Wait + Drop> {
+    ground_up: (PipeWriter<T>, PipeReader<T>),
+    craft_up: (PipeWriter<T>, PipeReader<T>),
+    craft_down: (PipeWriter<T>, PipeReader<T>),
+    ground_down: (PipeWriter<T>, PipeReader<T>),
+}
+
+// New pipes. Once ground has ended, what still comes down is dropped; once the spacecraft has, what
+// goes up fails. What goes up waits for the spacecraft, for so long at most, so that repeats don't
+// pile up if its disk is slow; what comes down never waits, so that nobody waits for ever.
 fn new_pipes<T: Wait + Copy + Drop>(
     alloc: Global,
     waits: &T,
     limit: Duration,
-) -> Result<[Ends<T>; 4], AllocError> {
-    Ok([
-        short_pipe(alloc, waits, Some(limit))?,
-        short_pipe(alloc, waits, None)?,
-        pipe(alloc, waits, Unread::Dropped)?,
-        pipe(alloc, waits, Unread::Dropped)?,
-    ])
+) -> Result<Pipes<T>, AllocError> {
+    Ok(Pipes {
+        ground_up: short_pipe(alloc, waits, Some(limit))?,
+        craft_up: short_pipe(alloc, waits, None)?,
+        craft_down: pipe(alloc, waits, Unread::Dropped)?,
+        ground_down: pipe(alloc, waits, Unread::Dropped)?,
+    })
 }
 
 // Carries out what is ready with this spacecraft, from the job's file on, if there is one: with a
@@ -169,11 +174,13 @@ where
     if let (Some(path), Some(lost)) = (words.ground.kept, lost_of(&ready.errand, &begun)) {
         return Err(memory_lost(rt, path, &lost));
     }
-    let [ground_up, craft_up, craft_down, ground_down] = new_pipes(
-        rt.alloc(),
-        threads,
-        limit_of(&words.ground),
-    )?;
+    let pipes = new_pipes(rt.alloc(), threads, limit_of(&words.ground))?;
+    let Pipes {
+        ground_up,
+        craft_up,
+        craft_down,
+        ground_down,
+    } = pipes;
     let (up, from_ground) = ground_up;
     let (to_craft, at_craft) = craft_up;
     let (from_craft, at_link) = craft_down;
